@@ -1,0 +1,13 @@
+pub mod Tree
+pub mod Number
+pub mod Limits
+pub mod Meter
+pub mod Form
+pub mod Operator
+pub mod Evaluate
+pub mod Match
+pub mod Constant
+pub mod Substitute
+pub mod Rules
+pub mod Driver
+pub mod Run

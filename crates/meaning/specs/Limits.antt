@@ -1,0 +1,41 @@
+-- Document 01, "Numbers that bound a run": each limit and each charge, by name.
+use Prim.Native.Nat.{ℕ, zero, suc, _+_}
+use mathlib.Core.List.{List, [], _∷_}
+use lib.ListN.{length}
+
+-- bytes of a form
+abbrev pub form-limit : ℕ
+form-limit = 8_192
+
+-- bytes of an atom of a form
+abbrev pub atom-limit : ℕ
+atom-limit = 64
+
+-- bytes of lent working room, at least
+abbrev pub room-least : ℕ
+room-least = 65_536
+
+abbrev pub unit-limit : ℕ
+unit-limit = 32_768
+
+abbrev pub pass-limit : ℕ
+pass-limit = 65_536
+
+abbrev pub nesting-limit : ℕ
+nesting-limit = 64
+
+-- steps of one evaluation
+abbrev pub step-limit : ℕ
+step-limit = 4_096
+
+-- bytes of the path rule's result
+abbrev pub path-limit : ℕ
+path-limit = 64
+
+abbrev pub pair-cost : ℕ
+pair-cost = 8
+
+-- "an atom of n bytes costs 4 + n, nil costs nothing"
+unfoldable pub atom-cost : List ℕ → ℕ
+atom-cost [] = 0
+atom-cost (b ∷ bs) = 4 + length (b ∷ bs)
