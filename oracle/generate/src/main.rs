@@ -1,0 +1,56 @@
+//! Prints forms of one family, a line of lower-case hex each.
+
+mod atoms;
+mod bytes;
+mod code;
+mod constants;
+mod damaged;
+mod kept;
+mod large;
+mod limits;
+mod options;
+mod pairs_eval;
+mod pairs_match;
+mod random;
+mod repeats;
+mod shared;
+mod sink;
+mod small;
+mod sound;
+mod tree;
+mod wide;
+
+use options::Options;
+use sink::Sink;
+
+fn main() {
+    let options = Options::read().unwrap_or_else(|problem| {
+        eprintln!("generate: {problem}\n{}", options::USAGE);
+        std::process::exit(2);
+    });
+    let mut sink = Sink::new(options.names);
+    if !print(&options, &mut sink) {
+        eprintln!("generate: no family is called {}\n{}", options.family, options::USAGE);
+        std::process::exit(2);
+    }
+    sink.finish();
+}
+
+fn print(options: &Options, sink: &mut Sink) -> bool {
+    match options.family.as_str() {
+        "bytes" => bytes::print(options, sink),
+        "small" => small::print(options, sink),
+        "code" => code::print(options, sink),
+        "kept" => kept::print(options, sink),
+        "damaged" => damaged::print(options, sink),
+        "limits" => limits::print(sink),
+        "repeats" => repeats::print(sink),
+        "wide" => wide::print(sink),
+        "large" => large::print(options, sink),
+        "shared" => shared::print(options, sink),
+        "pairs-match" => pairs_match::print(options, sink),
+        "pairs-eval" => pairs_eval::print(options, sink),
+        _ => return false,
+    }
+    true
+}

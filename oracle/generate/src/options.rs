@@ -1,0 +1,61 @@
+//! The command line.
+
+pub const USAGE: &str = "\
+usage: generate FAMILY [--seed N] [--count N] [--max N] [--leaves N] [--atoms HEX,HEX,..] [--names]
+families: bytes (--max: bytes in a form, to 3)
+          small (--leaves: 1 to 4; --atoms: which, nil being an empty word)
+          code, kept, damaged, large, pairs-match, pairs-eval (--seed, --count)
+          shared (--seed, --count: random ones after the fixed ones)
+          limits, repeats, wide
+--names puts a name before each form";
+
+pub struct Options {
+    pub family: String,
+    pub seed: u64,
+    pub count: u64,
+    pub max: usize,
+    pub leaves: usize,
+    pub atoms: Option<Vec<Vec<u8>>>,
+    pub names: bool,
+}
+
+impl Options {
+    pub fn read() -> Result<Self, String> {
+        let mut words = std::env::args().skip(1);
+        let family = words.next().ok_or("which family?")?;
+        let mut options = Options { family, seed: 1, count: 1000, max: 3, leaves: 3, atoms: None, names: false };
+        while let Some(word) = words.next() {
+            if word == "--names" {
+                options.names = true;
+                continue;
+            }
+            let value = words.next().ok_or(format!("{word} wants a value"))?;
+            options.set(&word, &value)?;
+        }
+        Ok(options)
+    }
+
+    fn set(&mut self, word: &str, value: &str) -> Result<(), String> {
+        match word {
+            "--seed" => self.seed = number(value)?,
+            "--count" => self.count = number(value)?,
+            "--max" => self.max = number(value)?.min(3) as usize,
+            "--leaves" => self.leaves = number(value)? as usize,
+            "--atoms" => self.atoms = Some(value.split(',').map(atom).collect::<Result<_, _>>()?),
+            _ => return Err(format!("no option is called {word}")),
+        }
+        Ok(())
+    }
+}
+
+fn number(text: &str) -> Result<u64, String> {
+    text.parse().map_err(|_| format!("{text} is not a number"))
+}
+
+fn atom(text: &str) -> Result<Vec<u8>, String> {
+    let digits: Option<Vec<u32>> = text.chars().map(|c| c.to_digit(16)).collect();
+    match digits {
+        Some(digits) if digits.len() % 2 == 0 => Ok(digits.chunks(2).map(|d| (d[0] * 16 + d[1]) as u8).collect()),
+        _ => Err(format!("{text} is not hex")),
+    }
+}

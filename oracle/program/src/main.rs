@@ -1,0 +1,114 @@
+//! The oracle: for each line of standard input one line of answer. README.md describes the modes.
+
+mod form;
+mod matcher;
+mod modes;
+mod runner;
+
+use std::io::{self, BufRead, BufReader, BufWriter, Write};
+use std::process::ExitCode;
+use std::thread;
+
+use clvm_rs::allocator::Allocator;
+use clvm_rs::run::Bounds;
+
+use modes::{answer, Mode};
+
+/// The stack is only touched as far as it is used.
+const STACK: usize = 1 << 30;
+/// Kept free for what does not look into the store.
+const STACK_SPARE: usize = 1 << 24;
+/// `tree` walks values that share parts as trees, and is stopped sooner.
+const TREE_WORK: u64 = 40_000_000;
+const WORK: u64 = 400_000_000;
+const NODES: usize = 2_000_000;
+
+const USAGE: &str = "Give one mode: tree, full, full --trace, full --rules, full --causes, match, eval, rule 1 to rule 8, or read.";
+
+fn mode(words: &[String]) -> Option<Mode> {
+    let words: Vec<&str> = words.iter().map(|w| w.as_str()).collect();
+    Some(match words[..] {
+        ["tree"] => Mode::Tree,
+        ["full"] => Mode::Full,
+        ["full", "--trace"] => Mode::FullTrace,
+        ["full", "--rules"] => Mode::FullRules,
+        ["full", "--causes"] => Mode::FullCauses,
+        ["match"] => Mode::Match,
+        ["eval"] => Mode::Eval,
+        ["read"] => Mode::Read,
+        ["rule", number @ ("1" | "2" | "3" | "4" | "5" | "6" | "7" | "8")] => {
+            Mode::Rule(number.parse().unwrap())
+        }
+        _ => return None,
+    })
+}
+
+fn main() -> ExitCode {
+    let words: Vec<String> = std::env::args_os()
+        .skip(1)
+        .map(|w| w.to_string_lossy().into_owned())
+        .collect();
+    let Some(mode) = mode(&words) else {
+        eprintln!("{USAGE}");
+        return ExitCode::from(2);
+    };
+    let worker = thread::Builder::new()
+        .stack_size(STACK)
+        .spawn(move || run(mode));
+    let worker = match worker {
+        Ok(worker) => worker,
+        Err(e) => {
+            eprintln!("A thread with a stack of {STACK} bytes cannot be started: {e}.");
+            return ExitCode::from(2);
+        }
+    };
+    match worker.join() {
+        Ok(Ok(status)) => status,
+        Ok(Err(e)) if e.kind() == io::ErrorKind::BrokenPipe => ExitCode::from(2),
+        Ok(Err(e)) => {
+            eprintln!("Reading or writing failed: {e}.");
+            ExitCode::from(2)
+        }
+        Err(_) => ExitCode::from(2),
+    }
+}
+
+fn run(mode: Mode) -> io::Result<ExitCode> {
+    let here = 0u8;
+    let mut store = Allocator::new(Bounds {
+        work: if mode == Mode::Tree { TREE_WORK } else { WORK },
+        nodes: NODES,
+        stack_floor: &here as *const u8 as usize - STACK + STACK_SPARE,
+    });
+    let mut input = BufReader::with_capacity(1 << 16, io::stdin());
+    let mut output = BufWriter::with_capacity(1 << 16, io::stdout());
+    let mut line = Vec::new();
+    let (mut no_line, mut broken) = (0u64, 0u64);
+    loop {
+        if input.buffer().is_empty() {
+            output.flush()?;
+        }
+        line.clear();
+        if input.read_until(b'\n', &mut line)? == 0 {
+            break;
+        }
+        if line.last() == Some(&b'\n') {
+            line.pop();
+        }
+        let said = answer(mode, &mut store, &line);
+        no_line += said.no_line as u64;
+        broken += said.broken as u64;
+        output.write_all(said.line.as_bytes())?;
+        output.write_all(b"\n")?;
+    }
+    output.flush()?;
+    if broken > 0 {
+        eprintln!("On {broken} of the lines the oracle contradicts itself; look for `broken`.");
+        return Ok(ExitCode::from(2));
+    }
+    if no_line > 0 {
+        eprintln!("Of the lines, {no_line} did not hold hex as this mode wants it; they are answered `no line`.");
+        return Ok(ExitCode::from(1));
+    }
+    Ok(ExitCode::SUCCESS)
+}

@@ -1,0 +1,206 @@
+//! What each mode says of one line.
+
+use std::fmt::Write;
+use std::panic::{catch_unwind, AssertUnwindSafe};
+use std::rc::Rc;
+
+use clvm_rs::allocator::{Allocator, NodePtr};
+use clvm_rs::error::EvalErr;
+use clvm_rs::run::{write, GaveUp};
+
+use crate::form::{from_hex, put_hex, read};
+use crate::matcher::{matches, published_agrees, Matched};
+use crate::runner::{evaluate, Runner};
+
+/// What a result may be written into.
+const OUTPUT: usize = 32_768;
+/// `tree` has no such limit; a longer result is given up.
+const TREE_OUTPUT: usize = 1 << 20;
+
+#[derive(Clone, Copy, PartialEq, Eq)]
+pub enum Mode {
+    Tree,
+    Full,
+    FullTrace,
+    FullRules,
+    FullCauses,
+    Match,
+    Eval,
+    Rule(usize),
+    Read,
+}
+
+pub struct Said {
+    pub line: String,
+    /// The line was not of hex digits.
+    pub no_line: bool,
+    /// The text complained of itself, or the two matchers disagree: the oracle is not to be trusted.
+    pub broken: bool,
+}
+
+pub fn answer(mode: Mode, store: &mut Allocator, line: &[u8]) -> Said {
+    let mut said = Said {
+        line: String::new(),
+        no_line: false,
+        broken: false,
+    };
+    let Some(forms) = forms(mode, line) else {
+        said.no_line = true;
+        said.line.push_str("no line");
+        if matches!(mode, Mode::FullTrace | Mode::FullRules | Mode::FullCauses) {
+            said.line.push_str(" |");
+        }
+        return said;
+    };
+    store.clear(mode != Mode::Tree);
+    if mode == Mode::FullTrace {
+        store.run.trace = Some(Vec::new());
+    }
+
+    let worked = catch_unwind(AssertUnwindSafe(|| {
+        let mut out = String::new();
+        work(mode, store, &forms, &mut out).map(|()| out)
+    }));
+    match worked {
+        Ok(Ok(out)) => said.line = out,
+        Ok(Err(EvalErr::Refused(number))) => write!(said.line, "no {number}").unwrap(),
+        Ok(Err(EvalErr::InternalError(_, complaint))) => {
+            said.broken = true;
+            write!(said.line, "broken: {complaint}").unwrap();
+        }
+        Err(thrown) if thrown.is::<GaveUp>() => {
+            said.line.push_str("gave up");
+            store.run.trace = None;
+        }
+        Err(thrown) => std::panic::resume_unwind(thrown),
+    }
+    said.broken |= said.line.starts_with("broken");
+
+    if mode == Mode::FullRules {
+        said.line.push_str(" |");
+        for count in store.run.ended {
+            write!(said.line, " {count}").unwrap();
+        }
+    }
+    if mode == Mode::FullCauses {
+        let run = &store.run;
+        write!(said.line, " | {} {}", run.mark_body as u8, run.mark_path as u8).unwrap();
+    }
+    if mode == Mode::FullTrace {
+        said.line.push_str(" |");
+        for (rule, changed) in store.run.trace.take().unwrap_or_default() {
+            write!(said.line, " {rule}:").unwrap();
+            match changed {
+                Some(bytes) => put_hex(&bytes, &mut said.line),
+                None => said.line.push_str("long"),
+            }
+        }
+    }
+    said
+}
+
+/// One form, or two with one blank between them.
+fn forms(mode: Mode, line: &[u8]) -> Option<Vec<Vec<u8>>> {
+    if matches!(mode, Mode::Match | Mode::Eval) {
+        let blank = line.iter().position(|c| *c == b' ')?;
+        Some(vec![from_hex(&line[..blank])?, from_hex(&line[blank + 1..])?])
+    } else {
+        Some(vec![from_hex(line)?])
+    }
+}
+
+fn work(
+    mode: Mode,
+    store: &mut Allocator,
+    forms: &[Vec<u8>],
+    out: &mut String,
+) -> Result<(), EvalErr> {
+    let first = read(store, &forms[0])?;
+    match mode {
+        Mode::Tree => {
+            let runner = Rc::new(Runner);
+            let tree = text::classic::clvm_tools::stages::stage_2::optimize::optimize_sexp(
+                store, first, runner,
+            )?;
+            let Some(bytes) = write(store, tree, TREE_OUTPUT) else {
+                clvm_rs::run::give_up();
+            };
+            out.push_str("ok ");
+            put_hex(&bytes, out);
+        }
+        Mode::Full | Mode::FullTrace | Mode::FullRules | Mode::FullCauses => {
+            let runner = Rc::new(Runner);
+            let tree = text_patched::classic::clvm_tools::stages::stage_2::optimize::optimize_sexp(
+                store, first, runner,
+            )?;
+            out.push_str("ok ");
+            put_tree(store, tree, out)?;
+            let run = &store.run;
+            write!(out, " {} {} {}", run.passes, run.units, run.mark() as u8).unwrap();
+        }
+        Mode::Match => {
+            let tree = read(store, &forms[1])?;
+            let found = matches(store, first, tree, Vec::new());
+            if !published_agrees(store, first, tree, &found) {
+                out.push_str("broken: the published matcher says otherwise");
+                return Ok(());
+            }
+            match found {
+                Matched::No => out.push_str("no match"),
+                Matched::TooManyNames => out.push_str("too many names"),
+                Matched::Yes(mut bindings) => {
+                    bindings.sort();
+                    out.push_str("ok");
+                    for (name, node) in bindings {
+                        out.push(' ');
+                        put_hex(&name, out);
+                        out.push('=');
+                        put_tree(store, node, out)?;
+                    }
+                }
+            }
+        }
+        Mode::Eval => {
+            let env = read(store, &forms[1])?;
+            let (value, steps) = evaluate(store, first, env)?;
+            out.push_str("ok ");
+            put_tree(store, value, out)?;
+            write!(out, " {steps} {}", store.run.units).unwrap();
+        }
+        Mode::Rule(number) => {
+            use clvm_rs::allocator::SExp;
+            let mut result = first;
+            if let SExp::Pair(..) = store.sexp(first) {
+                store.enter()?;
+                store.start_pass()?;
+                result = text_patched::classic::clvm_tools::stages::stage_2::optimize::one_rule(
+                    store,
+                    number,
+                    first,
+                    Rc::new(Runner),
+                )?;
+            }
+            // Equal trees have equal pointers in this store.
+            if result == first {
+                out.push_str("same");
+            } else {
+                out.push_str("changed ");
+                put_tree(store, result, out)?;
+            }
+            write!(out, " {} {}", store.run.units, store.run.mark() as u8).unwrap();
+        }
+        Mode::Read => {
+            out.push_str("ok ");
+            put_tree(store, first, out)?;
+            write!(out, " {}", store.run.units).unwrap();
+        }
+    }
+    Ok(())
+}
+
+/// The tree in hex, or refusal 14.
+fn put_tree(store: &Allocator, tree: NodePtr, out: &mut String) -> Result<(), EvalErr> {
+    let bytes = write(store, tree, OUTPUT).ok_or(EvalErr::Refused(14))?;
+    put_hex(&bytes, out);
+    Ok(())
+}
