@@ -68,7 +68,8 @@ follow-append (d ∷ ds) es (atom b) = refl
 follow-append (false ∷ ds) es (pair l r) = follow-append ds es l
 follow-append (true ∷ ds) es (pair l r) = follow-append ds es r
 
-lookup-turns : (n : ℕ) (t : Tree) → 1 ≤ n → lookup n t ≡ follow (turns n) t
+-- a path that is not 0 leads where its turns do
+pub lookup-turns : (n : ℕ) (t : Tree) → 1 ≤ n → lookup n t ≡ follow (turns n) t
 unfolding lookup
 lookup-turns zero t h = absurd (omega arith)
 lookup-turns (suc n) t h = refl

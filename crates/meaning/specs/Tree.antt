@@ -57,7 +57,6 @@ is-byte k (b ∷ c ∷ bs) = false
 
 -- sexp.rs, `non_nil`
 unfoldable pub non-nil : Tree → Bool
-unfolding is-empty
 non-nil (atom []) = false
 non-nil (atom (b ∷ bs)) = true
 non-nil (pair l r) = true

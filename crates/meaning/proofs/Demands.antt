@@ -1,0 +1,85 @@
+-- The three demands, in words and as theorems about the definitions. Assumes nothing.
+--
+-- What a run is: `run form room-length out-length` (specs/Run.antt), the form's bytes and how much room and output are lent, to
+-- `answered bytes passes units mark` or `refused n`; `out-after` and `room-after` say what every lent byte holds then.
+use Prim.Native.Nat.{ℕ, _≤_}
+use mathlib.Core.Path.{_≡_, refl}
+use mathlib.Core.List.{List, []}
+use mathlib.Core.Bool.{Bool, true, false}
+use lib.ListN.{length}
+use native.Mathlib.Omega.{arith}
+use Rattle.refusals.specs.declared.Refusal.{Refusal}
+use Rattle.refusals.specs.declared.Refusal.the-variants.{RoomSmall, FormLong, EndsEarly, BadPrefix, AtomLong, BytesAfter, UnitsOut, Fails, NoOperator, StepsOut, PathLong, PassesOut, TooDeep, OutputShort}
+use Rattle.refusals.specs.Numbers.{number-of}
+use Rattle.meaning.specs.Tree.{Tree}
+use Rattle.meaning.specs.Limits.{form-limit, unit-limit}
+use Rattle.meaning.specs.Meter.{Out, done, stop, Spent, Steps}
+use Rattle.meaning.specs.Form.{Reading, read-form, write, ReadsAs}
+use Rattle.meaning.specs.Evaluate.{Gives, evaluate}
+use Rattle.meaning.specs.Driver.{optimize-sexp}
+use Rattle.meaning.specs.Run.{Ran, answered, refused, run, out-after}
+use Rattle.meaning.proofs.Atoms.{Narrow, tree-cost}
+use Rattle.meaning.proofs.ReaderLaws.{IsBytes}
+use Rattle.meaning.proofs.ReadWrite.{form-read}
+use Rattle.meaning.proofs.WriteRead.{form-write}
+use Rattle.meaning.proofs.RunLaws.{answer-fits}
+use Rattle.meaning.proofs.BoundedEval.{evaluated}
+use Rattle.meaning.proofs.Finished.{finished}
+use Rattle.meaning.proofs.FinishedBytes.{finished-bytes}
+
+-- ---- Demand 1. "Every byte string is answered or refused with the number that document 01 gives; every run ends; a refusal writes nothing."
+
+-- `run` is a function, so there is one outcome for every byte string and every lent length, and it ends. A refusal's number is one of 1 to 14.
+pub demand-1-number : (n : Refusal) → (1 ≤ number-of n) × (number-of n ≤ 14)
+demand-1-number RoomSmall = (omega arith, omega arith)
+demand-1-number FormLong = (omega arith, omega arith)
+demand-1-number EndsEarly = (omega arith, omega arith)
+demand-1-number BadPrefix = (omega arith, omega arith)
+demand-1-number AtomLong = (omega arith, omega arith)
+demand-1-number BytesAfter = (omega arith, omega arith)
+demand-1-number UnitsOut = (omega arith, omega arith)
+demand-1-number Fails = (omega arith, omega arith)
+demand-1-number NoOperator = (omega arith, omega arith)
+demand-1-number StepsOut = (omega arith, omega arith)
+demand-1-number PathLong = (omega arith, omega arith)
+demand-1-number PassesOut = (omega arith, omega arith)
+demand-1-number TooDeep = (omega arith, omega arith)
+demand-1-number OutputShort = (omega arith, omega arith)
+
+-- a refusal leaves the output as it came in
+pub demand-1-silent : (n : Refusal) (out : List ℕ) → out-after (refused n) out ≡ out
+unfolding out-after
+demand-1-silent n out = refl
+
+-- an answer fits into the output
+pub demand-1-fits : (form : List ℕ) (room-length out-length : ℕ) (bytes : List ℕ) (passes units : ℕ) (mark : Bool)
+    → run form room-length out-length ≡ answered bytes passes units mark → length bytes ≤ out-length
+demand-1-fits = answer-fits
+
+-- ---- Demand 2. "Writing a form just read gives back its bytes." (That code equals these definitions is each function's contract; that the
+-- definitions are the Rust's is compared by running: Table, Readings, oracle/check-definitions.)
+
+pub demand-2-back : (bytes : List ℕ) (t : Tree) (s : Reading) → IsBytes bytes → read-form bytes 0 ≡ done t s → write t ≡ bytes
+demand-2-back bytes t s b h = form-read bytes t s h .written b
+
+-- and every tree within the limits is read back from what is written of it
+pub demand-2-forth : (t : Tree) → length (write t) ≤ form-limit → Narrow t → tree-cost t ≤ unit-limit
+    → read-form (write t) 0 ≡ done t (record { left = []; units = tree-cost t })
+demand-2-forth = form-write
+
+-- where the bounded evaluator gives a value, the unbounded gives the same
+pub demand-2-value : (e env v : Tree) (s t : Steps) → evaluate e env s ≡ done v t → Gives e env v
+demand-2-value = evaluated
+
+-- ---- Demand 3. "Where the answer has no mark, the finished tree gives every value that the source gives, in every environment."
+
+-- on trees, at any nesting
+pub demand-3 : (d : ℕ) (t u : Tree) (s s′ : Spent) → optimize-sexp d t s ≡ done u s′ → s′ .mark ≡ false
+    → (env v : Tree) → Gives t env v → Gives u env v
+demand-3 = finished
+
+-- on bytes: the form reads as t, the answer's bytes read, without limits, as u
+pub demand-3-bytes : (form : List ℕ) (room-length out-length : ℕ) (bytes : List ℕ) (passes units : ℕ) (t u env v : Tree)
+    → run form room-length out-length ≡ answered bytes passes units false
+    → (r : Reading) → read-form form 0 ≡ done t r → ReadsAs bytes u → Gives t env v → Gives u env v
+demand-3-bytes = finished-bytes finished
