@@ -53,3 +53,17 @@ pub mod SubstituteKeeps
 pub mod ChangeKeeps
 pub mod Finished
 pub mod Demands
+pub mod Agree
+pub mod EvalFuel
+pub mod Passes
+pub mod LoopFuel
+pub mod Outcomes
+pub mod BindLaws
+pub mod Operands
+pub mod OperandsSteps
+pub mod OperandsLaw
+pub mod OperandsRules
+pub mod Proper
+pub mod OperandsOutcomes
+pub mod Sizes
+pub mod RuleDiffers
