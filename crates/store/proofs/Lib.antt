@@ -1,0 +1,11 @@
+pub mod Writes
+pub mod Laws
+pub mod Places
+pub mod Trees
+pub mod Frame
+pub mod Append
+pub mod Atoms
+pub mod Notes
+pub mod Ready
+pub mod Charging
+pub mod Zeros

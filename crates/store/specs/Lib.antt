@@ -1,0 +1,4 @@
+pub mod Cells
+pub mod Nodes
+pub mod Store
+pub mod Makers
