@@ -1,0 +1,11 @@
+pub mod Spans
+pub mod Lengths
+pub mod Trees
+pub mod Atoms
+pub mod Reader
+pub mod Refusals
+pub mod Form
+pub mod Lend
+pub mod Writer
+pub mod Bytes
+pub mod OnlyOne

@@ -1,0 +1,4 @@
+pub mod Spans
+pub mod Reads
+pub mod Writes
+pub mod Bytes

@@ -1,0 +1,444 @@
+// The serialised form: reading it into the store, writing a node, and both on bytes alone.
+use refusals::Refusal;
+use store::Cell;
+use store::Charges;
+use store::Made;
+ghost use mathlib.Core.Path.{_≡_};
+ghost use mathlib.Core.List.{_++_};
+ghost use mathlib.Core.Bool.{true};
+ghost use Prim.Native.Nat.{_+_, _≤_, _<_};
+ghost use lib.ListN.{length, drop, getD};
+ghost use Rattle.meaning.specs.Limits.{form-limit, room-least};
+ghost use Rattle.meaning.specs.Form.{limits, more, sized, length-from, needs-prefix, read-long, write-atom, write};
+ghost use Rattle.store.specs.Nodes.{treeAt};
+ghost use Rattle.store.specs.Store.{Held, atom-most};
+ghost use Rattle.form.specs.Spans.{left-from, next-tree, Opens, LengthOk};
+ghost use Rattle.form.specs.Reads.{Stretch, ReadOk, FormOk, WholeOk, reading-of};
+ghost use Rattle.form.specs.Writes.{Writable, Wrote, extent};
+ghost use Rattle.form.specs.Bytes.{read-outcome, write-outcome, delivered, Reads, Delivers, Writes};
+
+// The node read, where the next byte stands, and the charges; or a refusal.
+pub enum Reading {
+    Node(usize, usize, Charges),
+    Refused(Refusal),
+}
+
+// A length that a prefix says and where the body begins, or a refusal.
+pub(crate) enum Length {
+    Long(usize, usize),
+    Refused(Refusal),
+}
+
+// How many bytes a tree is written in, where a limit allows them.
+pub enum Extent {
+    Long(usize),
+    Over,
+}
+
+// What `read` answers: the units that the form costs.
+pub enum ReadAnswer {
+    Read(usize),
+    Refused(Refusal),
+}
+
+// What `write` answers: how many bytes it wrote, and the units that the form costs.
+pub enum WriteAnswer {
+    Written(usize, usize),
+    Refused(Refusal),
+}
+
+const FORM: usize = 8192;
+
+const ATOM: usize = 64;
+
+const ROOM: usize = 65536;
+
+// ---- the prefix of an atom
+
+fn wide(x: u8) -> usize
+    ensures { λ r. ⌜ (r ≡ x) × (r < 256) ⌝ }
+{
+    x as usize
+}
+
+// k bytes more of a length that begins with v, big-endian.
+fn more(form: &[u8], stop: usize, at: usize, k: usize, v: usize) -> Length
+    requires { ⌜ (at ≤ stop) × (stop ≤ length (now form)) × (k ≤ 4) × (v < 64) ⌝ }
+    ensures { λ r. ⌜ LengthOk (now (form .entry)) stop at (more k v) r ⌝ }
+{
+    let mut n = v;
+    let mut i: usize = 0;
+    while i < k {
+        if stop <= at + i {
+            return Length::Refused(Refusal::EndsEarly);
+        }
+        n = n * 256 + wide(form[at + i]);
+        i += 1;
+    }
+    Length::Long(n, at + k)
+}
+
+// A length of k bytes more; one that a shorter prefix can say is overlong.
+fn sized(form: &[u8], stop: usize, at: usize, k: usize, v: usize, least: usize) -> Length
+    requires { ⌜ (at ≤ stop) × (stop ≤ length (now form)) × (k ≤ 4) × (v < 64) ⌝ }
+    ensures { λ r. ⌜ LengthOk (now (form .entry)) stop at (sized k v least) r ⌝ }
+{
+    match more(form, stop, at, k, v) {
+        Length::Long(n, next) => {
+            if n < least {
+                Length::Refused(Refusal::BadPrefix)
+            } else {
+                Length::Long(n, next)
+            }
+        }
+        Length::Refused(e) => Length::Refused(e),
+    }
+}
+
+// The length that the prefix p, from 80 on, says; the byte after it stands at at.
+fn length_from(form: &[u8], stop: usize, at: usize, p: usize) -> Length
+    requires { ⌜ (at ≤ stop) × (stop ≤ length (now form)) × (128 ≤ p) × (p < 256) ⌝ }
+    ensures { λ r. ⌜ LengthOk (now (form .entry)) stop at (length-from p) r ⌝ }
+{
+    if p < 0xc0 {
+        return Length::Long(p - 0x80, at);
+    }
+    if p < 0xe0 {
+        return sized(form, stop, at, 1, p - 0xc0, 0x40);
+    }
+    if p < 0xf0 {
+        return sized(form, stop, at, 2, p - 0xe0, 0x2000);
+    }
+    if p < 0xf8 {
+        return sized(form, stop, at, 3, p - 0xf0, 0x100000);
+    }
+    if p < 0xfc {
+        return sized(form, stop, at, 4, p - 0xf8, 0x8000000);
+    }
+    Length::Refused(Refusal::BadPrefix)
+}
+
+// Whether a body needs a prefix: a byte below 80 is written alone.
+fn needs_prefix(b: &[u8]) -> bool
+    ensures { λ r. ⌜ r ≡ needs-prefix (now (b .entry)) ⌝ }
+{
+    if b.len() == 0 {
+        return false;
+    }
+    if b.len() == 1 {
+        return 0x80 <= b[0];
+    }
+    true
+}
+
+// ---- reading
+
+fn with_next(m: Made, next: usize) -> Reading
+    ensures { λ r. ⌜ r ≡ reading-of m next ⌝ }
+{
+    match m {
+        Made::Node(n, ch) => Reading::Node(n, next, ch),
+        Made::Refused(e) => Reading::Refused(e),
+    }
+}
+
+// An atom that begins with the prefix p, above 80; the byte after it stands at at.
+fn read_long(form: &[u8], room: &mut [u8], stop: usize, at: usize, p: usize, ch: Charges) -> Reading
+    requires { ⌜ Held (now form) (now room) ch × Stretch (now form) stop at × (128 ≤ p) × (p < 256) ⌝ }
+    ensures { λ r. ⌜ ReadOk (now (form .entry)) (now (room .entry)) (now (room .exit)) stop at ch (read-long limits p (left-from (now (form .entry)) at stop (ch .units))) r ⌝ }
+{
+    match length_from(form, stop, at, p) {
+        Length::Refused(e) => Reading::Refused(e),
+        Length::Long(n, from) => {
+            if ATOM < n {
+                return Reading::Refused(Refusal::AtomLong);
+            }
+            if stop - from < n {
+                return Reading::Refused(Refusal::EndsEarly);
+            }
+            let next = from + n;
+            if needs_prefix(&form[from..next]) {
+                with_next(store::form_atom_node(form, room, ch, from, n), next)
+            } else {
+                Reading::Refused(Refusal::BadPrefix)
+            }
+        }
+    }
+}
+
+// One atom, from at on: the byte there is not ff.
+fn read_atom(form: &[u8], room: &mut [u8], stop: usize, at: usize, ch: Charges) -> Reading
+    requires { ⌜ Held (now form) (now room) ch × Stretch (now form) stop at × (at < stop → getD (now form) at 0 ≡ 255 → ⊥) ⌝ }
+    ensures { λ r. ⌜ ReadOk (now (form .entry)) (now (room .entry)) (now (room .exit)) stop at ch (next-tree (left-from (now (form .entry)) at stop (ch .units))) r ⌝ }
+{
+    if stop <= at {
+        return Reading::Refused(Refusal::EndsEarly);
+    }
+    let p = wide(form[at]);
+    if p < 0x80 {
+        return with_next(store::form_atom_node(form, room, ch, at, 1), at + 1);
+    }
+    if p == 0x80 {
+        return Reading::Node(0, at + 1, ch);
+    }
+    read_long(form, room, stop, at + 1, p, ch)
+}
+
+// How many bytes ff stand one after the other from at on.
+fn pairs_from(form: &[u8], stop: usize, at: usize) -> usize
+    requires { ⌜ (at ≤ stop) × (stop ≤ length (now form)) ⌝ }
+    ensures { λ r. ⌜ Opens (now (form .entry)) stop at r ⌝ }
+{
+    let mut i = at;
+    while i < stop {
+        if form[i] != 0xff {
+            return i - at;
+        }
+        i += 1;
+    }
+    i - at
+}
+
+// One tree, from at on. Pairs that begin one inside the other are a count, and each is made once its
+// right part is read: so only right parts take stack, and a form has at most 4,096 of them in a row.
+pub fn read_node(form: &[u8], room: &mut [u8], stop: usize, at: usize, ch: Charges) -> Reading
+    requires { ⌜ Held (now form) (now room) ch × Stretch (now form) stop at ⌝ }
+    ensures { λ r. ⌜ ReadOk (now (form .entry)) (now (room .entry)) (now (room .exit)) stop at ch (next-tree (left-from (now (form .entry)) at stop (ch .units))) r ⌝ }
+{
+    let mut pending = pairs_from(form, stop, at);
+    match read_atom(form, room, stop, at + pending, ch) {
+        Reading::Refused(e) => Reading::Refused(e),
+        Reading::Node(q, m, c) => {
+            let mut left = q;
+            let mut next = m;
+            let mut spent = c;
+            while 0 < pending {
+                match read_node(form, room, stop, next, spent) {
+                    Reading::Refused(e) => {
+                        return Reading::Refused(e);
+                    }
+                    Reading::Node(right, after, d) => {
+                        match store::pair_node(form, room, d, left, right) {
+                            Made::Refused(over) => {
+                                return Reading::Refused(over);
+                            }
+                            Made::Node(p, b) => {
+                                left = p;
+                                next = after;
+                                spent = b;
+                                pending -= 1;
+                            }
+                        }
+                    }
+                }
+            }
+            Reading::Node(left, next, spent)
+        }
+    }
+}
+
+// One tree and no more, of at most 8,192 bytes: form[from..stop].
+pub fn read_form(form: &[u8], room: &mut [u8], from: usize, stop: usize, ch: Charges) -> Made
+    requires { ⌜ Held (now form) (now room) ch × (from ≤ stop) × (stop ≤ length (now form)) × (from ≤ form-limit) ⌝ }
+    ensures { λ r. ⌜ FormOk (now (form .entry)) (now (room .entry)) (now (room .exit)) stop from ch r ⌝ }
+{
+    if FORM < stop - from {
+        return Made::Refused(Refusal::FormLong);
+    }
+    match read_node(form, room, stop, from, ch) {
+        Reading::Refused(e) => Made::Refused(e),
+        Reading::Node(n, next, c) => {
+            if next < stop {
+                Made::Refused(Refusal::BytesAfter)
+            } else {
+                Made::Node(n, c)
+            }
+        }
+    }
+}
+
+// ---- writing
+
+// How many bytes an atom of these is written in.
+fn atom_length(b: &[u8]) -> usize
+    requires { ⌜ length (now b) ≤ atom-most ⌝ }
+    ensures { λ r. ⌜ r ≡ length (write-atom (now (b .entry))) ⌝ }
+{
+    if needs_prefix(b) {
+        if b.len() < 64 {
+            b.len() + 1
+        } else {
+            b.len() + 2
+        }
+    } else {
+        1
+    }
+}
+
+// How many bytes the tree of node n is written in, where that is at most limit. Parts may be shared, so
+// a tree may be far larger than its store: every node looked at takes a byte of the limit.
+pub fn length_node<'a>(form: &'a [u8], room: &'a [u8], n: usize, limit: usize) -> Extent
+    requires { ⌜ Writable (now form) (now room) n ⌝ }
+    ensures { λ r. ⌜ r ≡ extent limit (length (write (treeAt (now (form .entry)) (now (room .entry)) n))) ⌝ }
+{
+    match store::look_node(room, n) {
+        Cell::Pair(l, r) => {
+            if limit == 0 {
+                return Extent::Over;
+            }
+            match length_node(form, room, l, limit - 1) {
+                Extent::Over => Extent::Over,
+                Extent::Long(a) => {
+                    let k = 1 + a;
+                    match length_node(form, room, r, limit - k) {
+                        Extent::Over => Extent::Over,
+                        Extent::Long(b) => Extent::Long(k + b),
+                    }
+                }
+            }
+        }
+        Cell::Atom => {
+            let k = atom_length(store::atom_bytes(form, room, n));
+            if limit < k {
+                Extent::Over
+            } else {
+                Extent::Long(k)
+            }
+        }
+    }
+}
+
+// Copies src to the front of dst.
+fn copy(src: &[u8], dst: &mut [u8])
+    requires { ⌜ length (now src) ≤ length (now dst) ⌝ }
+    ensures { λ _. ⌜ now (dst .exit) ≡ now (src .entry) ++ drop (length (now (src .entry))) (now (dst .entry)) ⌝ }
+{
+    let mut i: usize = 0;
+    while i < src.len() {
+        dst[i] = src[i];
+        i += 1;
+    }
+}
+
+// An atom's bytes after a prefix of one byte.
+fn put_short(b: &[u8], out: &mut [u8]) -> usize
+    requires { ⌜ (needs-prefix (now b) ≡ true) × (length (now b) < 64) × (length (now b) < length (now out)) ⌝ }
+    ensures { λ r. ⌜ Wrote (write-atom (now (b .entry))) r (now (out .entry)) (now (out .exit)) ⌝ }
+{
+    let n = b.len();
+    out[0] = (0x80 + n) as u8;
+    copy(b, &mut out[1..]);
+    n + 1
+}
+
+// An atom's bytes after a prefix of two bytes.
+fn put_long(b: &[u8], out: &mut [u8]) -> usize
+    requires { ⌜ (needs-prefix (now b) ≡ true) × (64 ≤ length (now b)) × (length (now b) ≤ atom-most) × (length (now b) + 1 < length (now out)) ⌝ }
+    ensures { λ r. ⌜ Wrote (write-atom (now (b .entry))) r (now (out .entry)) (now (out .exit)) ⌝ }
+{
+    let n = b.len();
+    out[0] = (0xc0 + n / 256) as u8;
+    out[1] = (n % 256) as u8;
+    copy(b, &mut out[2..]);
+    n + 2
+}
+
+fn put_atom(b: &[u8], out: &mut [u8]) -> usize
+    requires { ⌜ (length (now b) ≤ atom-most) × (length (write-atom (now b)) ≤ length (now out)) ⌝ }
+    ensures { λ r. ⌜ Wrote (write-atom (now (b .entry))) r (now (out .entry)) (now (out .exit)) ⌝ }
+{
+    if needs_prefix(b) {
+        return if b.len() < 64 {
+            put_short(b, out)
+        } else {
+            put_long(b, out)
+        };
+    }
+    if b.len() == 0 {
+        out[0] = 0x80;
+        return 1;
+    }
+    out[0] = b[0];
+    1
+}
+
+// Writes the tree of node n to the front of out, which has room for it. The right part is written into
+// what remains of the output after the left.
+pub fn write_node<'a>(form: &'a [u8], room: &'a [u8], n: usize, out: &mut [u8]) -> usize
+    requires { ⌜ Writable (now form) (now room) n × (length (write (treeAt (now form) (now room) n)) ≤ length (now out)) ⌝ }
+    ensures { λ r. ⌜ Wrote (write (treeAt (now (form .entry)) (now (room .entry)) n)) r (now (out .entry)) (now (out .exit)) ⌝ }
+{
+    match store::look_node(room, n) {
+        Cell::Pair(l, r) => {
+            out[0] = 0xff;
+            let k = write_node(form, room, l, &mut out[1..]);
+            let at = 1 + k;
+            let m = write_node(form, room, r, &mut out[at..]);
+            at + m
+        }
+        Cell::Atom => put_atom(store::atom_bytes(form, room, n), out),
+    }
+}
+
+// ---- on bytes alone
+
+// Reads the form, in a room that has been started.
+fn read_whole(form: &[u8], room: &mut [u8]) -> Made
+    requires { ⌜ room-least ≤ length (now room) ⌝ }
+    ensures { λ r. ⌜ WholeOk (now (form .entry)) (now (room .exit)) r ⌝ }
+{
+    let ch = store::start(form, room);
+    read_form(form, room, 0, form.len(), ch)
+}
+
+// The units that the form costs. The room is all zero after, but for refusal 1.
+pub fn read(form: &[u8], room: &mut [u8]) -> ReadAnswer
+    ensures { λ r. ⌜ Reads (read-outcome (now (form .entry)) (length (now (room .entry)))) (now (room .entry)) (now (room .exit)) r ⌝ }
+{
+    if room.len() < ROOM {
+        return ReadAnswer::Refused(Refusal::RoomSmall);
+    }
+    let m = read_whole(form, room);
+    store::zero_room(room);
+    match m {
+        Made::Node(_, c) => ReadAnswer::Read(c.units),
+        Made::Refused(e) => ReadAnswer::Refused(e),
+    }
+}
+
+// Writes the node, which stands for the form's tree, where it fits.
+fn deliver<'a>(
+    form: &'a [u8],
+    room: &'a [u8],
+    n: usize,
+    units: usize,
+    out: &mut [u8],
+) -> WriteAnswer
+    requires { ⌜ Writable (now form) (now room) n ⌝ }
+    ensures { λ r. ⌜ Delivers (delivered (length (now (out .entry))) (treeAt (now (form .entry)) (now (room .entry)) n) units) (now (out .entry)) (now (out .exit)) r ⌝ }
+{
+    match length_node(form, room, n, out.len()) {
+        Extent::Over => WriteAnswer::Refused(Refusal::OutputShort),
+        Extent::Long(_) => WriteAnswer::Written(write_node(form, room, n, out), units),
+    }
+}
+
+// Reads the form and writes its tree again. The room is all zero after, but for refusal 1.
+pub fn write(form: &[u8], room: &mut [u8], out: &mut [u8]) -> WriteAnswer
+    ensures { λ r. ⌜ Writes (write-outcome (now (form .entry)) (length (now (room .entry))) (length (now (out .entry)))) (now (room .entry)) (now (room .exit)) (now (out .entry)) (now (out .exit)) r ⌝ }
+{
+    if room.len() < ROOM {
+        return WriteAnswer::Refused(Refusal::RoomSmall);
+    }
+    match read_whole(form, room) {
+        Made::Node(n, c) => {
+            let a = deliver(form, room, n, c.units, out);
+            store::zero_room(room);
+            a
+        }
+        Made::Refused(e) => {
+            store::zero_room(room);
+            WriteAnswer::Refused(e)
+        }
+    }
+}

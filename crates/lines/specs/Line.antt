@@ -1,0 +1,72 @@
+-- A line that is read in parts.
+use Prim.Native.Nat.{ℕ, _+_, _*_, _≤_}
+use mathlib.Core.Path.{_≡_}
+use mathlib.Core.Bool.{Bool, true, false}
+use mathlib.Core.List.{List, [], _∷_, _++_}
+use lib.Dec.{eqb, ltb}
+use lib.ListN.{length, take, drop}
+use Rattle.lines.specs.declared.read.Line.{Line}
+use Rattle.lines.specs.declared.read.Lines.{Lines}
+use Rattle.lines.specs.declared.read.Part.{Part}
+use Rattle.io.specs.Counts.{Counts}
+use Rattle.lines.specs.Hex.{digit-of}
+
+-- a line so far: the bytes kept, the digit that waits for its second (16: none), whether a byte was met that is no digit
+pub record Seen : Type 0 where
+  pub bytes : List ℕ
+  pub half : ℕ
+  pub bad : Bool
+
+-- what stands in the form and in the code's record of a line
+abbrev pub shown : List ℕ → Line → Seen
+shown form l = record { bytes = take (l .n) form; half = l .half; bad = l .bad }
+
+-- a byte is kept while there are fewer than `most`
+unfoldable pub keep : ℕ → List ℕ → ℕ → List ℕ
+keep most bs x = elim (ltb (length bs) most) [ true ↦ bs ++ (x ∷ []) | false ↦ bs ]
+
+-- one byte more of the line
+unfoldable pub more : ℕ → Seen → ℕ → Seen
+unfolding digit-of keep
+more most s x =
+    elim (ltb (digit-of x) 16) [
+      | true ↦ elim (ltb (s .half) 16) [
+        | true ↦ record { bytes = keep most (s .bytes) (s .half * 16 + digit-of x); half = 16; bad = s .bad }
+        | false ↦ record { bytes = s .bytes; half = digit-of x; bad = s .bad }
+      ]
+      | false ↦ record { bytes = s .bytes; half = s .half; bad = true }
+    ]
+
+-- the line after some bytes, the place after these, and whether a newline ended it
+pub record Walked : Type 0 where
+  pub seen : Seen
+  pub at : ℕ
+  pub ended : Bool
+
+abbrev pub walked : List ℕ → Part → Walked
+walked form p = record { seen = shown form (p .line); at = p .at; ended = p .ended }
+
+-- the bytes from a place on, up to a newline or their end
+unfoldable pub walk : ℕ → Seen → ℕ → List ℕ → Walked
+unfolding more
+walk most s at [] = record { seen = s; at = at; ended = false }
+walk most s at (x ∷ xs) =
+    elim (eqb x 10) [
+      | true ↦ record { seen = s; at = at + 1; ended = true }
+      | false ↦ walk most (more most s x) (at + 1) xs
+    ]
+
+-- what one byte more leaves
+pub record Took (x : ℕ) (form form′ : List ℕ) (l r : Line) : Type 0 where
+  pub shows : shown form′ r ≡ more (length form) (shown form l) x
+  pub within : r .n ≤ length form′
+
+-- what bytes from a place on leave
+pub record Passed (bytes : List ℕ) (from : ℕ) (form form′ : List ℕ) (l : Line) (p : Part) : Type 0 where
+  pub shows : walked form′ p ≡ walk (length form) (shown form l) from (drop from bytes)
+  pub within : p .line .n ≤ length form′
+
+-- both lines' bytes stand within the forms
+pub record Two (forms : List ℕ) (r : Lines) : Type 0 where
+  pub fits : Counts (r .n) forms
+  pub first : r .first ≤ r .n

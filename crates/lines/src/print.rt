@@ -1,0 +1,88 @@
+// Printing. A program lends the bytes where what is printed waits, text; text[..at] waits, and each function answers the next at.
+use libc::STDOUT_FILENO;
+ghost use mathlib.Core.Path.{_≡_};
+ghost use Prim.Native.Nat.{_<_};
+ghost use mathlib.Core.List.{[], _∷_};
+ghost use Rattle.io.specs.Digits.{glyph};
+ghost use Rattle.lines.specs.Hex.{hex-of};
+ghost use Rattle.lines.specs.Text.{Printed, Decimal};
+
+// Writes what waits.
+pub fn flush(text: &[u8], at: usize) {
+    if at <= text.len() {
+        io::write_all(STDOUT_FILENO, &text[..at]);
+    }
+}
+
+// One byte more. Where the text is full it is written first.
+fn put(text: &mut [u8], at: usize, x: u8) -> usize
+    ensures { λ r. ⌜ Printed (x ∷ []) (now (text .entry)) (now (text .exit)) at r ⌝ }
+{
+    if at < text.len() {
+        text[at] = x;
+        return at + 1;
+    }
+    io::write_all(STDOUT_FILENO, text);
+    io::write_all(STDOUT_FILENO, &[x]);
+    0
+}
+
+pub fn print_word(text: &mut [u8], at: usize, word: &[u8]) -> usize
+    ensures { λ r. ⌜ Printed (now (word .entry)) (now (text .entry)) (now (text .exit)) at r ⌝ }
+{
+    let mut k = at;
+    let mut i = 0;
+    while i < word.len() {
+        k = put(text, k, word[i]);
+        i += 1;
+    }
+    k
+}
+
+fn hex_digit(d: u8) -> u8
+    requires { ⌜ d < 16 ⌝ }
+    ensures { λ r. ⌜ r ≡ glyph d ⌝ }
+{
+    if d < 10 { b'0' + d } else { b'a' + (d - 10) }
+}
+
+// Two digits.
+fn put_byte(text: &mut [u8], at: usize, x: u8) -> usize
+    ensures { λ r. ⌜ Printed (hex-of (x ∷ [])) (now (text .entry)) (now (text .exit)) at r ⌝ }
+{
+    let k = put(text, at, hex_digit(x / 16));
+    put(text, k, hex_digit(x % 16))
+}
+
+// Bytes in lower-case hex.
+pub fn print_hex(text: &mut [u8], at: usize, bytes: &[u8]) -> usize
+    ensures { λ r. ⌜ Printed (hex-of (now (bytes .entry))) (now (text .entry)) (now (text .exit)) at r ⌝ }
+{
+    let mut k = at;
+    let mut i = 0;
+    while i < bytes.len() {
+        k = put_byte(text, k, bytes[i]);
+        i += 1;
+    }
+    k
+}
+
+pub fn print_decimal(text: &mut [u8], at: usize, n: u64) -> usize
+    ensures { λ r. ⌜ Decimal n (now (text .entry)) (now (text .exit)) at r ⌝ }
+{
+    let mut digits = [0u8; 20];
+    let k = io::decimal(n, &mut digits);
+    print_word(text, at, &digits[..k])
+}
+
+// The outcome of a line that was refused: `no`, and the refusal's number.
+pub fn print_no(text: &mut [u8], at: usize, number: u8) -> usize {
+    let a = print_word(text, at, b"no ");
+    let b = print_decimal(text, a, number as u64);
+    print_word(text, b, b"\n")
+}
+
+// The outcome of a line that is not an even count of lower-case hex digits.
+pub fn no_line(text: &mut [u8], at: usize) -> usize {
+    print_word(text, at, b"no line\n")
+}

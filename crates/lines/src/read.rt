@@ -1,0 +1,266 @@
+// Reading. A program lends the bytes that reads fill, buf, and the bytes that a line's digits make, form; only places and lengths go
+// by value.
+use crate::print::flush;
+use libc::STDIN_FILENO;
+ghost use mathlib.Core.Path.{_≡_};
+ghost use Prim.Native.Nat.{_+_, _^_, _≤_, _<_};
+ghost use lib.ListN.{length};
+ghost use Rattle.io.specs.Counts.{Counts};
+ghost use Rattle.lines.specs.Hex.{digit-of};
+ghost use Rattle.lines.specs.Line.{Took, Passed, Two};
+
+pub enum Got {
+    // An even count of lower-case hex digits, none for an empty line.
+    Form,
+    // Any other line.
+    Bad,
+    // No line: the input ended before.
+    End,
+}
+
+// buf[at..len] was read and is not used yet; text[..put] waits to be written; and what the last line was: form[..n] has its bytes, and
+// form[..first] those of the first of two.
+pub struct Lines {
+    pub at: usize,
+    pub len: usize,
+    pub put: usize,
+    pub first: usize,
+    pub n: usize,
+    pub got: Got,
+}
+
+// A line so far: form[..n] has the bytes that its digits made, half is the digit that waits for its second (16: none), bad says that
+// another byte was met.
+pub struct Line {
+    pub n: usize,
+    pub half: u8,
+    pub bad: bool,
+}
+
+// The line after some bytes, the place after these, and whether they ended it.
+pub struct Part {
+    pub line: Line,
+    pub at: usize,
+    pub ended: bool,
+}
+
+// The value of a digit; 16 for any other byte.
+fn digit(x: u8) -> u8
+    ensures { λ r. ⌜ r ≡ digit-of x ⌝ }
+{
+    match x {
+        b'0'..=b'9' => x - b'0',
+        b'a'..=b'f' => x - b'a' + 10,
+        _ => 16,
+    }
+}
+
+// The line after one byte more. What form has no room for is dropped.
+fn with_byte(form: &mut [u8], l: Line, x: u8) -> Line
+    requires { ⌜ l .n ≤ length (now form) ⌝ }
+    ensures { λ r. ⌜ Took x (now (form .entry)) (now (form .exit)) l r ⌝ }
+{
+    let d = digit(x);
+    let n = l.n;
+    let half = l.half;
+    if 16 <= d {
+        return Line {
+            n,
+            half,
+            bad: true,
+        };
+    }
+    if 16 <= half {
+        return Line {
+            n,
+            half: d,
+            bad: l.bad,
+        };
+    }
+    if form.len() <= n {
+        return Line {
+            n,
+            half: 16,
+            bad: l.bad,
+        };
+    }
+    form[n] = half * 16 + d;
+    Line {
+        n: n + 1,
+        half: 16,
+        bad: l.bad,
+    }
+}
+
+// The line after the bytes from a place on, up to a newline or their end.
+fn with_bytes(bytes: &[u8], from: usize, form: &mut [u8], l: Line) -> Part
+    requires { ⌜ l .n ≤ length (now form) ⌝ }
+    ensures { λ r. ⌜ Passed (now (bytes .entry)) from (now (form .entry)) (now (form .exit)) l r ⌝ }
+{
+    let mut line = l;
+    let mut at = from;
+    while at < bytes.len() {
+        let x = bytes[at];
+        at += 1;
+        if x == b'\n' {
+            return Part {
+                line,
+                at,
+                ended: true,
+            };
+        }
+        line = with_byte(form, line, x);
+    }
+    Part {
+        line,
+        at,
+        ended: false,
+    }
+}
+
+// Bad where a byte was met that is no digit, or where a digit waits.
+fn verdict(l: Line) -> Got {
+    if l.bad {
+        return Got::Bad;
+    }
+    if l.half < 16 {
+        return Got::Bad;
+    }
+    Got::Form
+}
+
+// No more than buf has.
+fn within(n: usize, buf: &[u8]) -> usize
+    ensures { λ r. ⌜ Counts r (now (buf .entry)) ⌝ }
+{
+    if n <= buf.len() { n } else { buf.len() }
+}
+
+// Writes the text that waits, and then reads: whoever waits for an outcome before sending more gets it.
+fn refill(buf: &mut [u8], text: &[u8], put: usize) -> usize
+    ensures { λ r. ⌜ Counts r (now (buf .exit)) ⌝ }
+{
+    flush(text, put);
+    let came = libc::read(STDIN_FILENO, buf);
+    io::count(came, buf)
+}
+
+// Where a program starts.
+pub fn start() -> Lines {
+    Lines {
+        at: 0,
+        len: 0,
+        put: 0,
+        first: 0,
+        n: 0,
+        got: Got::Form,
+    }
+}
+
+// Whether the input had a line.
+pub fn more(s: Lines) -> bool {
+    let g = s.got;
+    match g {
+        Got::Form => true,
+        Got::Bad => true,
+        Got::End => false,
+    }
+}
+
+// Where the input ends: a last line needs no newline.
+fn last(l: Line, begun: bool) -> Lines
+    ensures { λ r. ⌜ r .n ≡ l .n ⌝ }
+{
+    Lines {
+        at: 0,
+        len: 0,
+        put: 0,
+        first: 0,
+        n: l.n,
+        got: if begun { verdict(l) } else { Got::End },
+    }
+}
+
+// The next line: form[..n] has its bytes, or the first of them where form is too short for all.
+// A proved loop ends, and nothing says that the input does: so the reads are counted down, from a number that no run uses up.
+pub fn next_line(buf: &mut [u8], form: &mut [u8], text: &[u8], s: Lines) -> Lines
+    ensures { λ r. ⌜ Counts (r .n) (now (form .exit)) ⌝ }
+{
+    let mut line = Line {
+        n: 0,
+        half: 16,
+        bad: false,
+    };
+    let mut at = s.at;
+    let mut len = within(s.len, buf);
+    let mut put = s.put;
+    let mut begun = at < len;
+    let mut turns = u64::MAX;
+    while 0 < turns {
+        let p = with_bytes(&buf[..len], at, form, line);
+        line = p.line;
+        at = p.at;
+        if p.ended {
+            return Lines {
+                at,
+                len,
+                put,
+                first: 0,
+                n: line.n,
+                got: verdict(line),
+            };
+        }
+        len = refill(buf, text, put);
+        put = 0;
+        at = 0;
+        if len == 0 {
+            return last(line, begun);
+        }
+        begun = true;
+        turns -= 1;
+    }
+    Lines {
+        at,
+        len,
+        put,
+        first: 0,
+        n: line.n,
+        got: Got::End,
+    }
+}
+
+// What two lines are together: both read, and the second's bytes behind the first's.
+fn both(a: Lines, b: Lines) -> Lines
+    requires { ⌜ a .n + b .n < 2 ^ 64 ⌝ }
+    ensures { λ r. ⌜ (r .n ≡ a .n + b .n) × (r .first ≡ a .n) ⌝ }
+{
+    let g = a.got;
+    let h = b.got;
+    Lines {
+        at: b.at,
+        len: b.len,
+        put: b.put,
+        first: a.n,
+        n: a.n + b.n,
+        got: match g {
+            Got::Form => match h {
+                Got::Form => Got::Form,
+                Got::Bad => Got::Bad,
+                Got::End => Got::Bad,
+            },
+            Got::Bad => Got::Bad,
+            Got::End => Got::End,
+        },
+    }
+}
+
+// The next two lines: forms[..first] has the first one's bytes, and forms[first..n] the second's. A second line that is missing is no
+// line.
+pub fn next_two(buf: &mut [u8], forms: &mut [u8], text: &[u8], s: Lines) -> Lines
+    ensures { λ r. ⌜ Two (now (forms .exit)) r ⌝ }
+{
+    let a = next_line(buf, forms, text, s);
+    let n = a.n;
+    let b = next_line(buf, &mut forms[n..], text, a);
+    both(a, b)
+}
