@@ -64,11 +64,7 @@ fn with_byte(form: &mut [u8], l: Line, x: u8) -> Line
     let n = l.n;
     let half = l.half;
     if 16 <= d {
-        return Line {
-            n,
-            half,
-            bad: true,
-        };
+        return Line { n, half, bad: true };
     }
     if 16 <= half {
         return Line {
