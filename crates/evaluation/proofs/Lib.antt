@@ -1,0 +1,4 @@
+pub mod Later
+pub mod Both
+pub mod Bytes
+pub mod OnlyOne

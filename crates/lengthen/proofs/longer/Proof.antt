@@ -1,0 +1,17 @@
+-- longer: an answer for each need; what carries weight stands in the laws.
+use Rattle.lengthen.proofs.Laws as laws
+use borrow.Author.Needs.{needs}
+use Rattle.lengthen.proofs.longer.Statement.{statement}
+use Rattle.lengthen.proofs.longer.Tie as tie
+
+pub longer-spec : {M : Type 1} → statement M
+longer-spec =
+    tie.close
+    (tie.spec
+    (λ c κs. search needs)  -- longer-requires
+    (λ c. search laws.longer-is)  -- returns
+    (λ c κs. search needs)  -- negative-requires
+    (λ c κs. (search needs, search laws.sign, search needs))  -- longer-negative-requires
+    (λ c. search needs)  -- returns-2
+    (λ c κs. (search laws.sign, search needs))  -- longer-positive-requires
+    (λ c. search needs))  -- returns-3

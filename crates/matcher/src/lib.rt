@@ -1,0 +1,250 @@
+// The matcher on bytes alone: the pattern's form and the expression's stand one after the other in one lent slice.
+use form::Extent;
+use pattern::Bindings;
+use pattern::Match;
+use refusals::Refusal;
+use store::Charges;
+use store::Made;
+ghost use mathlib.Core.Path.{_≡_};
+ghost use mathlib.Core.List.{_++_};
+ghost use Prim.Native.Nat.{_+_, _≤_};
+ghost use lib.ListN.{length, take, drop};
+ghost use Rattle.meaning.specs.Limits.{room-least};
+ghost use Rattle.meaning.specs.Form.{write};
+ghost use Rattle.meaning.specs.Match as meaning;
+ghost use Rattle.store.specs.Nodes.{treeAt};
+ghost use Rattle.form.specs.Writes.{Writable, Wrote, extent};
+ghost use Rattle.pattern.specs.Bound.{bindingsAt, Bound, matchAt, BoundIn};
+ghost use Rattle.matcher.specs.Outcome.{worked, parts, joined, delivered, outcome, Delivers, Matches};
+ghost use Rattle.matcher.specs.Steps.{Splits, WorkOk, ends, placed};
+
+// How many names were bound, and where each part that was written ends; a part that is not there has no bytes.
+pub struct Parts {
+    pub count: usize,
+    pub name_1: usize,
+    pub node_1: usize,
+    pub name_2: usize,
+    pub node_2: usize,
+}
+
+pub enum MatchAnswer {
+    Matched(Parts),
+    NoMatch,
+    TooManyNames,
+    Refused(Refusal),
+}
+
+// What the two forms answer.
+pub(crate) enum Worked {
+    Went(Match, Charges),
+    Stop(Refusal),
+}
+
+// Where two trees end that are written one after the other, where a limit allows them.
+pub(crate) enum Ends {
+    At(usize, usize),
+    Over,
+}
+
+// Where all parts end, where a limit allows them.
+pub(crate) enum Placed {
+    All(Parts),
+    Over,
+}
+
+const ROOM: usize = 65536;
+
+// ---- the two forms
+
+// Where the pattern's form ends.
+fn split(forms: &[u8], first: usize) -> usize
+    ensures { λ r. ⌜ Splits (now (forms .entry)) first r ⌝ }
+{
+    if first < forms.len() {
+        first
+    } else {
+        forms.len()
+    }
+}
+
+// Reads the pattern, forms[..from], and then the expression, the rest; and matches.
+fn work(forms: &[u8], room: &mut [u8], from: usize) -> Worked
+    requires { ⌜ (room-least ≤ length (now room)) × (from ≤ length (now forms)) ⌝ }
+    ensures { λ w. ⌜ WorkOk (now (forms .entry)) (now (room .exit)) (worked (take from (now (forms .entry))) (drop from (now (forms .entry)))) w ⌝ }
+{
+    let ch = store::start(forms, room);
+    match form::read_form(forms, room, 0, from, ch) {
+        Made::Refused(e) => Worked::Stop(e),
+        Made::Node(p, c) => match form::read_form(forms, room, from, forms.len(), c) {
+            Made::Refused(e) => Worked::Stop(e),
+            Made::Node(s, d) => {
+                let m = pattern::matched_node(forms, room, d, p, s);
+                Worked::Went(m, d)
+            }
+        },
+    }
+}
+
+// ---- the parts
+
+// Where the node's tree ends that is written from at on.
+fn end_node<'a>(forms: &'a [u8], room: &'a [u8], n: usize, at: usize, limit: usize) -> Extent
+    requires { ⌜ Writable (now forms) (now room) n × (at ≤ limit) ⌝ }
+    ensures { λ r. ⌜ r ≡ extent limit (at + length (write (treeAt (now (forms .entry)) (now (room .entry)) n))) ⌝ }
+{
+    match form::length_node(forms, room, n, limit - at) {
+        Extent::Long(k) => Extent::Long(at + k),
+        Extent::Over => Extent::Over,
+    }
+}
+
+fn end_both<'a>(
+    forms: &'a [u8],
+    room: &'a [u8],
+    name: usize,
+    node: usize,
+    at: usize,
+    limit: usize,
+) -> Ends
+    requires { ⌜ Writable (now forms) (now room) name × Writable (now forms) (now room) node × (at ≤ limit) ⌝ }
+    ensures { λ r. ⌜ r ≡ ends limit at (length (write (treeAt (now (forms .entry)) (now (room .entry)) name))) (length (write (treeAt (now (forms .entry)) (now (room .entry)) node))) ⌝ }
+{
+    match end_node(forms, room, name, at, limit) {
+        Extent::Over => Ends::Over,
+        Extent::Long(mid) => match end_node(forms, room, node, mid, limit) {
+            Extent::Over => Ends::Over,
+            Extent::Long(end) => Ends::At(mid, end),
+        },
+    }
+}
+
+fn place<'a>(forms: &'a [u8], room: &'a [u8], ch: Charges, ks: Bindings, limit: usize) -> Placed
+    requires { ⌜ Bound (now forms) (now room) ch ks ⌝ }
+    ensures { λ r. ⌜ r ≡ placed limit (bindingsAt (now (forms .entry)) (now (room .entry)) ks) ⌝ }
+{
+    if ks.count == 0 {
+        return Placed::All(Parts {
+            count: 0,
+            name_1: 0,
+            node_1: 0,
+            name_2: 0,
+            node_2: 0,
+        });
+    }
+    match end_both(forms, room, ks.name_1, ks.node_1, 0, limit) {
+        Ends::Over => Placed::Over,
+        Ends::At(a, b) => {
+            if ks.count == 1 {
+                return Placed::All(Parts {
+                    count: 1,
+                    name_1: a,
+                    node_1: b,
+                    name_2: b,
+                    node_2: b,
+                });
+            }
+            match end_both(forms, room, ks.name_2, ks.node_2, b, limit) {
+                Ends::Over => Placed::Over,
+                Ends::At(c, d) => Placed::All(Parts {
+                    count: 2,
+                    name_1: a,
+                    node_1: b,
+                    name_2: c,
+                    node_2: d,
+                }),
+            }
+        }
+    }
+}
+
+// Writes a name's atom and a tree to the front of out, which has room for them.
+fn write_both<'a>(
+    forms: &'a [u8],
+    room: &'a [u8],
+    name: usize,
+    node: usize,
+    out: &mut [u8],
+) -> usize
+    requires { ⌜ Writable (now forms) (now room) name × Writable (now forms) (now room) node × (length (write (treeAt (now forms) (now room) name)) + length (write (treeAt (now forms) (now room) node)) ≤ length (now out)) ⌝ }
+    ensures { λ r. ⌜ Wrote (write (treeAt (now (forms .entry)) (now (room .entry)) name) ++ write (treeAt (now (forms .entry)) (now (room .entry)) node)) r (now (out .entry)) (now (out .exit)) ⌝ }
+{
+    let at = form::write_node(forms, room, name, out);
+    let k = form::write_node(forms, room, node, &mut out[at..]);
+    at + k
+}
+
+// Writes all parts to the front of out, which has room for them.
+fn write_parts<'a>(
+    forms: &'a [u8],
+    room: &'a [u8],
+    ch: Charges,
+    ks: Bindings,
+    out: &mut [u8],
+) -> usize
+    requires { ⌜ Bound (now forms) (now room) ch ks × (length (joined (parts (bindingsAt (now forms) (now room) ks))) ≤ length (now out)) ⌝ }
+    ensures { λ r. ⌜ Wrote (joined (parts (bindingsAt (now (forms .entry)) (now (room .entry)) ks))) r (now (out .entry)) (now (out .exit)) ⌝ }
+{
+    if ks.count == 0 {
+        return 0;
+    }
+    let at = write_both(forms, room, ks.name_1, ks.node_1, out);
+    if ks.count == 1 {
+        return at;
+    }
+    let k = write_both(forms, room, ks.name_2, ks.node_2, &mut out[at..]);
+    at + k
+}
+
+// Writes the parts, where they fit.
+fn deliver<'a>(
+    forms: &'a [u8],
+    room: &'a [u8],
+    ch: Charges,
+    ks: Bindings,
+    out: &mut [u8],
+) -> MatchAnswer
+    requires { ⌜ Bound (now forms) (now room) ch ks ⌝ }
+    ensures { λ r. ⌜ Delivers (delivered (length (now (out .entry))) (meaning.matched (bindingsAt (now (forms .entry)) (now (room .entry)) ks))) (now (out .entry)) (now (out .exit)) r ⌝ }
+{
+    match place(forms, room, ch, ks, out.len()) {
+        Placed::Over => MatchAnswer::Refused(Refusal::OutputShort),
+        Placed::All(e) => {
+            write_parts(forms, room, ch, ks, out);
+            MatchAnswer::Matched(e)
+        }
+    }
+}
+
+// ---- the whole
+
+fn answer<'a>(forms: &'a [u8], room: &'a [u8], ch: Charges, m: Match, out: &mut [u8]) -> MatchAnswer
+    requires { ⌜ BoundIn (now forms) (now room) ch m ⌝ }
+    ensures { λ r. ⌜ Delivers (delivered (length (now (out .entry))) (matchAt (now (forms .entry)) (now (room .entry)) m)) (now (out .entry)) (now (out .exit)) r ⌝ }
+{
+    match m {
+        Match::Matched(ks) => deliver(forms, room, ch, ks, out),
+        Match::NoMatch => MatchAnswer::NoMatch,
+        Match::TooManyNames => MatchAnswer::TooManyNames,
+    }
+}
+
+// Matches the expression against the pattern, forms[..first]. A match writes, for each name in the order in which the names were
+// bound, the name's atom and the tree. The room is all zero after, but for refusal 1.
+pub fn matches(forms: &[u8], first: usize, room: &mut [u8], out: &mut [u8]) -> MatchAnswer
+    ensures { λ r. ⌜ Matches (outcome (now (forms .entry)) first (length (now (room .entry))) (length (now (out .entry)))) (now (room .entry)) (now (room .exit)) (now (out .entry)) (now (out .exit)) r ⌝ }
+{
+    if room.len() < ROOM {
+        return MatchAnswer::Refused(Refusal::RoomSmall);
+    }
+    match work(forms, room, split(forms, first)) {
+        Worked::Stop(e) => {
+            store::zero_room(room);
+            MatchAnswer::Refused(e)
+        }
+        Worked::Went(m, c) => {
+            let a = answer(forms, room, c, m, out);
+            store::zero_room(room);
+            a
+        }
+    }
+}

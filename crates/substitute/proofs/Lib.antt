@@ -1,0 +1,4 @@
+pub mod Bought
+pub mod Part
+pub mod Turns
+pub mod Answers
