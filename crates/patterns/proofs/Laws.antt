@@ -58,7 +58,7 @@ module _ {f s s₁ : List ℕ} {c : Charges} {k : ℕ} {t : Tree} {o : Laid} (h 
       record {
         stands = record { grown = grown-both (h .stands .grown) (g .stands .grown); ready = g .stands .ready; tree = g .stands .tree ∙ e };
         units = g .units ∙ h .units;
-        free = omega arith
+        free = omega arith;
       }
 
 -- (b . x)
@@ -126,7 +126,7 @@ both-laid f s s₁ s₂ c x o p g h r =
       first = shows-grown (g .stands .grown) (laid-new h);
       rest = laid-new u;
       units = u .units;
-      free = u .free
+      free = u .free;
     }
 
 -- the two of a pattern that was laid before them
@@ -141,7 +141,7 @@ both-then {c} {k} {k′} {o} {a} h g j n e =
       first = g .first;
       rest = g .rest;
       units = g .units ∙ h .units;
-      free = omega arith
+      free = omega arith;
     })
 
 module _ (f s s₁ s₂ : List ℕ) (c : Charges) (o : Laid) (a : Both) (g : BothLaid f s₁ s₂ (o .ch) 72 (treeAt f s₁ (o .node)) a) where
@@ -163,14 +163,14 @@ others-laid {f} {s} {s₁} {s₂} {s₃} {c} {a} {q} {n} h₃ h₂ h₁ =
       quote-nil = shows-grown (h₃ .stands .grown) (laid-new u);
       apply-nil = laid-new h₃;
       units = v .units;
-      free = v .free
+      free = v .free;
     }
 
 pub patterns-laid : {f s s₁ s₂ s₃ : List ℕ} {c : Charges} {a b : Both} {o : Others} → OthersLaid f s₂ s₃ (b .ch) o → BothLaid f s₁ s₂ (a .ch) 102 (pair (byte atom-match) (atom atom-name)) b
     → BothLaid f s s₁ c 184 cons-pattern a
     → PatternsLaid f s s₃ c (record {
       patterns = record { cons = a .inner; «first_cons» = a .first; «rest_cons» = a .rest; apply = o .apply; «first_atom» = b .first; «rest_atom» = b .rest; «quote_nil» = o .«quote_nil»; «apply_nil» = o .«apply_nil» };
-      ch = o .ch
+      ch = o .ch;
     })
 unfolding cons-optimizer-pattern atom-pattern enlist
 patterns-laid {f} {s} {s₁} {s₂} {s₃} {c} {a} {b} {o} h₃ h₂ h₁ =
@@ -188,8 +188,8 @@ patterns-laid {f} {s} {s₁} {s₂} {s₃} {c} {a} {b} {o} h₃ h₂ h₁ =
         first-atom = shows-grown (h₃ .grown) (h₂ .first);
         rest-atom = shows-grown (h₃ .grown) (h₂ .rest);
         quote-nil = h₃ .quote-nil;
-        apply-nil = h₃ .apply-nil
+        apply-nil = h₃ .apply-nil;
       };
       units = h₃ .units ∙ h₂ .units ∙ h₁ .units;
-      free = omega arith
+      free = omega arith;
     }

@@ -214,8 +214,5 @@ pub fn lay_patterns(form: &[u8], room: &mut [u8], ch: Charges) -> Prepared
         quote_nil: o.quote_nil,
         apply_nil: o.apply_nil,
     };
-    Prepared {
-        patterns: p,
-        ch: e,
-    }
+    Prepared { patterns: p, ch: e }
 }

@@ -54,6 +54,6 @@ did-made f s s₁ s₂ w w′ q c₁ x t k a def g h d o e = rw e (go a h)
       grown = grown-both g (b .stands .grown);
       ready = b .stands .ready;
       gives = d ∙ charged-node f s₁ s₂ before k t n c b;
-      differs = rw (b .stands .tree) o
+      differs = rw (b .stands .tree) o;
     }
     go (Refused r) b = record { after = _; stops = d ∙ charged-stop f s₁ s₂ before k t r b }

@@ -152,7 +152,7 @@ module _ (f s s₁ : List ℕ) (c : Charges) (n o : ℕ) (g : Got) (gr : Grown f
   asks = record {
     ready = grown-ready gr r;
     found = found;
-    other = λ t bs e. rw (grown-tree gr r) (path-differs o (treeAt f s n) t bs (sym is ∙ e))
+    other = λ t bs e. rw (grown-tree gr r) (path-differs o (treeAt f s n) t bs (sym is ∙ e));
   }
 
 module _ (f s s₁ : List ℕ) (w : Work) (n k : ℕ) (p : Patterns) (g : Got) (h : GotOk f s s₁ (w .ch) g (meaning.got atom-name (meaning.match-sexp (treeAt f s (p .«rest_atom»)) (treeAt f s n) []))) (ready : Ready f s (w .ch) n) (patterned : Patterned f s (w .ch) p) where

@@ -120,10 +120,7 @@ fn quoted_value(form: &[u8], room: &mut [u8], w: Work, n: usize) -> Work
     ensures { λ q. ⌜ Did (now (form .entry)) (now (room .entry)) (now (room .exit)) w (treeAt (now (form .entry)) (now (room .entry)) n) (worked-out (treeAt (now (form .entry)) (now (room .entry)) n) (spentOf w)) q ⌝ }
 {
     let ch = w.ch;
-    let m = Meter {
-        steps: 0,
-        ch: ch,
-    };
+    let m = Meter { steps: 0, ch: ch };
     match evaluator::eval_node(form, room, m, n, 0) {
         Valued::Refused(e) => with(w, Outcome::Stopped(e)),
         Valued::Value(v, t) => {

@@ -186,7 +186,7 @@ module _ (f s : List ℕ) (c : Charges) (body g args : ℕ) (q : Cell) (e : q �
             let ea : treeAt f s₁ args ≡ treeAt f s args = done-tree rep args ra in
             let ev : treeAt f s₁ (v .node) ≡ sub-args (treeAt f s g) (treeAt f s args) = rep .bought .stands .tree in
             let p′ : SubOk f s₁ s₂ (v .ch) (list-cost (treeAt f s (n .right)) (treeAt f s args)) (list-tree (sub-args (treeAt f s g) (treeAt f s args)) (treeAt f s (n .right)) (treeAt f s args)) (list-low (reads-low (treeAt f s g)) (treeAt f s (n .right))) b =
-                rw (er, ea, ev, rep .low) at p in
+            rw (er, ea, ev, rep .low) at p in
             rw (tree, k, t, l) (sub-then rep s₂ _ _ _ b p′)
 
   -- the head is an atom

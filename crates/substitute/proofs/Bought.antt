@@ -41,7 +41,7 @@ module _ {f s s₁ : List ℕ} {c c₁ : Charges} {k q : ℕ} {t : Tree} (h : Bo
       record {
         stands = record { grown = grown-both (h .stands .grown) (g .stands .grown); ready = g .stands .ready; tree = g .stands .tree };
         units = omega arith;
-        free = g .free ∙ h .free
+        free = g .free ∙ h .free;
       }
 
   pub over-then : {k′ : ℕ} {r : Refusal} → Over c₁ k′ r → Over c (k + k′) r

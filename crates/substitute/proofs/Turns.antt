@@ -125,7 +125,7 @@ module _ (f s₀ s : List ℕ) (c₀ c : Charges) (n args count a i : ℕ) (w : 
           let u : d .units ≡ c .units + part-cost (treeAt f s a) = y .units in
           let t : treeAt f s₁ q ≡ cons-part right (treeAt f s a) = y .stands .tree in
           let k : path-cost (drop i (sub-turns (bytesAt f s₀ n))) (treeAt f s a) ≡ part-cost (treeAt f s a) + path-cost (drop (i + 1) (sub-turns (bytesAt f s₀ n))) (treeAt f s₁ q) =
-              rw (next, t) (cost-step right (drop (i + 1) (sub-turns (bytesAt f s₀ n))) (treeAt f s a)) in
+          rw (next, t) (cost-step right (drop (i + 1) (sub-turns (bytesAt f s₀ n))) (treeAt f s a)) in
           let v : c .units + path-cost (drop i (sub-turns (bytesAt f s₀ n))) (treeAt f s a) ≡ c₀ .units + path-cost (sub-turns (bytesAt f s₀ n)) (treeAt f s₀ args) = w .cost in
           record {
             grown = grown-both (w .grown) (y .stands .grown);
@@ -133,7 +133,7 @@ module _ (f s₀ s : List ℕ) (c₀ c : Charges) (n args count a i : ℕ) (w : 
             free = y .free ∙ w .free;
             counted = w .counted;
             tree = rw t (sym (path-step right (drop (i + 1) (sub-turns (bytesAt f s₀ n))) (treeAt f s a)) ∙ ap (λ ds. path-from-args ds (treeAt f s a)) (sym next) ∙ w .tree);
-            cost = omega arith
+            cost = omega arith;
           }
 
       pub walk-stops : (s′ : List ℕ) (r : Refusal) → m ≡ Refused r → MadeOk f s₀ s′ c₀ (path-cost (sub-turns (bytesAt f s₀ n)) (treeAt f s₀ args)) (path-from-args (sub-turns (bytesAt f s₀ n)) (treeAt f s₀ args)) (Refused r)
@@ -142,7 +142,7 @@ module _ (f s₀ s : List ℕ) (c₀ c : Charges) (n args count a i : ℕ) (w : 
           let o : Over c (part-cost (treeAt f s a)) r = made-over f s s₁ c _ _ m b r z in
           let x : unit-limit < c .units + part-cost (treeAt f s a) = o .over in
           let k : path-cost (drop i (sub-turns (bytesAt f s₀ n))) (treeAt f s a) ≡ part-cost (treeAt f s a) + path-cost (drop (i + 1) (sub-turns (bytesAt f s₀ n))) (cons-part right (treeAt f s a)) =
-              rw next (cost-step right (drop (i + 1) (sub-turns (bytesAt f s₀ n))) (treeAt f s a)) in
+          rw next (cost-step right (drop (i + 1) (sub-turns (bytesAt f s₀ n))) (treeAt f s a)) in
           let v : c .units + path-cost (drop i (sub-turns (bytesAt f s₀ n))) (treeAt f s a) ≡ c₀ .units + path-cost (sub-turns (bytesAt f s₀ n)) (treeAt f s₀ args) = w .cost in
           record { refusal = o .refusal; over = omega arith }
 

@@ -1,6 +1,6 @@
 // optimize.rs, `sub_args` and what it calls, on nodes. Low atoms are noted on the way.
-use patterns::Patterns;
 use pattern::Got;
+use patterns::Patterns;
 use refusals::Refusal;
 use store::Cell;
 use store::Charges;
@@ -52,7 +52,14 @@ fn call_node(form: &[u8], room: &mut [u8], ch: Charges, o: u8, args: usize) -> M
 }
 
 // What args is made of on one side, where it is (c A B).
-fn part_node(form: &[u8], room: &mut [u8], p: Patterns, ch: Charges, args: usize, right: bool) -> Got
+fn part_node(
+    form: &[u8],
+    room: &mut [u8],
+    p: Patterns,
+    ch: Charges,
+    args: usize,
+    right: bool,
+) -> Got
     requires { ⌜ Ready (now form) (now room) ch args × Patterned (now form) (now room) ch p ⌝ }
     ensures { λ g. ⌜ GotOk (now (form .entry)) (now (room .entry)) (now (room .exit)) ch g (got-part right (treeAt (now (form .entry)) (now (room .entry)) args)) ⌝ }
 {
@@ -70,7 +77,14 @@ fn operator(right: bool) -> u8
 }
 
 // `cons_r` where right, else `cons_f`.
-fn cons_node(form: &[u8], room: &mut [u8], p: Patterns, ch: Charges, args: usize, right: bool) -> Made
+fn cons_node(
+    form: &[u8],
+    room: &mut [u8],
+    p: Patterns,
+    ch: Charges,
+    args: usize,
+    right: bool,
+) -> Made
     requires { ⌜ Ready (now form) (now room) ch args × Patterned (now form) (now room) ch p ⌝ }
     ensures { λ a. ⌜ MadeOk (now (form .entry)) (now (room .entry)) (now (room .exit)) ch (part-cost (treeAt (now (form .entry)) (now (room .entry)) args)) (cons-part right (treeAt (now (form .entry)) (now (room .entry)) args)) a ⌝ }
 {
@@ -99,7 +113,14 @@ fn turn_at<'a>(form: &'a [u8], room: &'a [u8], n: usize, i: usize) -> bool
 }
 
 // The path that the atom n says, from the new arguments.
-fn path_from_args(form: &[u8], room: &mut [u8], p: Patterns, ch: Charges, n: usize, args: usize) -> Made
+fn path_from_args(
+    form: &[u8],
+    room: &mut [u8],
+    p: Patterns,
+    ch: Charges,
+    n: usize,
+    args: usize,
+) -> Made
     requires { ⌜ Named (now form) (now room) ch n × Ready (now form) (now room) ch args × Patterned (now form) (now room) ch p ⌝ }
     ensures { λ a. ⌜ MadeOk (now (form .entry)) (now (room .entry)) (now (room .exit)) ch (path-cost (sub-turns (bytesAt (now (form .entry)) (now (room .entry)) n)) (treeAt (now (form .entry)) (now (room .entry)) args)) (path-from-args (sub-turns (bytesAt (now (form .entry)) (now (room .entry)) n)) (treeAt (now (form .entry)) (now (room .entry)) args)) a ⌝ }
 {
@@ -162,7 +183,16 @@ fn sub_atom(form: &[u8], room: &mut [u8], p: Patterns, ch: Charges, n: usize, ar
 }
 
 // The list of first, whose work is done, and the operands in rest: an improper tail gives the new arguments.
-fn sub_list(form: &[u8], room: &mut [u8], p: Patterns, ch: Charges, first: usize, low: bool, rest: usize, args: usize) -> Sub
+fn sub_list(
+    form: &[u8],
+    room: &mut [u8],
+    p: Patterns,
+    ch: Charges,
+    first: usize,
+    low: bool,
+    rest: usize,
+    args: usize,
+) -> Sub
     requires { ⌜ Ready (now form) (now room) ch first × Ready (now form) (now room) ch rest × Ready (now form) (now room) ch args × Patterned (now form) (now room) ch p ⌝ }
     ensures { λ r. ⌜ SubOk (now (form .entry)) (now (room .entry)) (now (room .exit)) ch (list-cost (treeAt (now (form .entry)) (now (room .entry)) rest) (treeAt (now (form .entry)) (now (room .entry)) args)) (list-tree (treeAt (now (form .entry)) (now (room .entry)) first) (treeAt (now (form .entry)) (now (room .entry)) rest) (treeAt (now (form .entry)) (now (room .entry)) args)) (list-low low (treeAt (now (form .entry)) (now (room .entry)) rest)) r ⌝ }
 {
@@ -213,7 +243,14 @@ fn sub_each(form: &[u8], room: &mut [u8], p: Patterns, ch: Charges, list: usize,
 }
 
 // The body with the new arguments in the place of its own: quotes stay.
-pub fn sub_args(form: &[u8], room: &mut [u8], p: Patterns, ch: Charges, body: usize, args: usize) -> Sub
+pub fn sub_args(
+    form: &[u8],
+    room: &mut [u8],
+    p: Patterns,
+    ch: Charges,
+    body: usize,
+    args: usize,
+) -> Sub
     requires { ⌜ Ready (now form) (now room) ch body × Ready (now form) (now room) ch args × Patterned (now form) (now room) ch p ⌝ }
     ensures { λ r. ⌜ SubOk (now (form .entry)) (now (room .entry)) (now (room .exit)) ch (sub-cost (treeAt (now (form .entry)) (now (room .entry)) body) (treeAt (now (form .entry)) (now (room .entry)) args)) (sub-args (treeAt (now (form .entry)) (now (room .entry)) body) (treeAt (now (form .entry)) (now (room .entry)) args)) (reads-low (treeAt (now (form .entry)) (now (room .entry)) body)) r ⌝ }
 {
