@@ -2,13 +2,11 @@
 use Prim.Native.Nat.{ℕ, zero, suc, _+_, _*_, _-_, _/_, _%_, _^_, _≤_, _<_}
 use native.Mathlib.Omega.{arith}
 use native.Mathlib.Nat.{mul-le-mul-right, pow-le-pow-right, div-add-mod'}
-use mathlib.Core.Path.{_≡_, refl, sym, _∙_, ap, ap₂, subst}
+use mathlib.Core.Path.{_≡_, refl, sym, _∙_, ap}
 use mathlib.Core.List.{List, [], _∷_}
 use mathlib.Core.Bool.{Bool, true, false, _&&_, not}
-use mir.Val.{Fits}
-use mir.Syntax.{w8}
 use lib.Dec.{eqb, leb}
-use lib.ListN.{length, getD, take, drop}
+use lib.ListN.{length, getD}
 use borrow.Author.Tests.{eq-eqb, ne-eqb, leb-true}
 use Rattle.meaning.specs.Limits.{path-limit}
 use Rattle.meaning.specs.Number.{number, negative, node-path-index, bigint-from-bytes, shortest-signed, turns, compose-paths, bytes-onto, bytes-of}
@@ -18,7 +16,7 @@ use Rattle.paths.specs.declared.casts.Number.{Number}
 use Rattle.paths.specs.declared.node_path.Lengthened.{Lengthened}
 use Rattle.paths.specs.Fours.{turned}
 use Rattle.paths.specs.Wide.{Holds, Shortest, Longer}
-use Rattle.paths.proofs.NumberLaws.{Bytes, number-cons, from-at, split-at, on-lt}
+use Rattle.paths.proofs.NumberLaws.{Bytes, from-at, split-at, on-lt}
 use Rattle.paths.proofs.TurnLaws.{count-step, count-after, small-or}
 use Rattle.paths.proofs.ShortestLaws.{number-bytes-of, shortest-first, held-len}
 use Rattle.paths.proofs.FourLaws.{bigint-turned, length-turned, turned-before, turned-group}

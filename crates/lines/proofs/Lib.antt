@@ -1,2 +1,4 @@
 pub mod Printing
 pub mod Reading
+pub mod Decoding
+pub mod Front

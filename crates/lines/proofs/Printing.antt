@@ -1,14 +1,16 @@
 -- Printing byte by byte: what stands after one more, and what a loop over a word or over bytes keeps.
 use mathlib.Core.Path.{_≡_, refl, sym, _∙_, ap}
 use mathlib.Core.List.{List, [], _∷_, _++_, append-nil, append-assoc}
-use Prim.Native.Nat.{ℕ, _+_, _/_, _%_, _≤_, _<_}
+use Prim.Native.Nat.{ℕ, zero, suc, _+_, _-_, _*_, _/_, _%_, _^_, _≤_, _<_}
 use native.Mathlib.Omega.{arith}
 use native.Mathlib.Numerals.{add-one}
+use native.Mathlib.Nat.{pow-suc, one-le-pow}
 use lib.ListN.{length, take, getD, set, length-append, length-set}
 use lib.Seq.{take-suc, take-suc-set, take-all}
+use borrow.Author.Tests.{lt-ltb, le-ltb}
 use Rattle.io.specs.Digits.{glyph, digits, Fewest}
 use Rattle.lines.specs.Hex.{hex-of}
-use Rattle.lines.specs.Text.{Printed, Decimal}
+use Rattle.lines.specs.Text.{Printed, ok-tree, places, decimal-of, blank-decimal, no-number}
 
 pub nothing : (s : List ℕ) (at : ℕ) → Printed [] s s at at
 nothing s at = record { long = refl; within = λ h. h; stands = λ h. sym (append-nil (take at s)); next = λ h. omega arith }
@@ -87,6 +89,42 @@ hex-turn b s t u at k r i q v h = record {
 pub hex-ends : (b s t : List ℕ) (at k i : ℕ) → Hex b s t at k i → length b ≤ i → Printed (hex-of b) s t at k
 hex-ends b s t at k i v h = rw (take-all i b h) at (v .printed)
 
+pub ok-ends : (b s t u : List ℕ) (at k r : ℕ) → Printed (hex-of b) t u k r → Printed (111 ∷ 107 ∷ 32 ∷ []) s t at k → Printed (ok-tree b) s u at r
+unfolding ok-tree
+ok-ends b s t u at k r q p = joined (111 ∷ 107 ∷ 32 ∷ []) (hex-of b) s t u at k r q p
+
 -- a number
-pub number-ends : (n k : ℕ) (w s t : List ℕ) (at r : ℕ) → Printed (take k w) s t at r → take k w ≡ digits 10 k n → Fewest 10 1 n k → Decimal n s t at r
-number-ends n k w s t at r p e f = record { count = k; fewest = f; printed = rw e at p }
+less-one : (k : ℕ) → suc k - 1 ≡ k
+less-one k = omega arith
+
+pub places-fewest : (f n k : ℕ) → n < 10 ^ suc f → Fewest 10 1 n k → places f n ≡ k
+unfolding places
+places-fewest f n zero h p = absurd (omega (arith, p .0))
+places-fewest zero n (suc zero) h p = refl
+places-fewest zero n (suc (suc k)) h p =
+    let a : 10 ^ suc k ≤ n = rw (less-one (suc k)) at (p .2 (omega arith)) in
+    let b : 10 ^ suc k ≡ 10 ^ k * 10 = pow-suc 10 k in
+    let d : 1 ≤ 10 ^ k = one-le-pow k 10 (omega arith) in
+    absurd (omega arith)
+places-fewest (suc f) n (suc zero) h p = let a : n < 10 = p .1 in rw (lt-ltb n 10 a, places)
+places-fewest (suc f) n (suc (suc k)) h p =
+    let a : 10 ^ suc k ≤ n = rw (less-one (suc k)) at (p .2 (omega arith)) in
+    let b : 10 ^ suc k ≡ 10 ^ k * 10 = pow-suc 10 k in
+    let d : 1 ≤ 10 ^ k = one-le-pow k 10 (omega arith) in
+    let e : 10 ^ suc (suc k) ≡ 10 ^ suc k * 10 = pow-suc 10 (suc k) in
+    let g : 10 ^ suc (suc f) ≡ 10 ^ suc f * 10 = pow-suc 10 (suc f) in
+    let i : n < 10 ^ suc (suc k) = p .1 in
+    let j : 10 ^ k ≤ n / 10 = omega arith in
+    rw (le-ltb n 10 (omega arith), places) (ap suc (places-fewest f (n / 10) (suc k) (omega arith) (omega arith, omega arith, λ x. rw (less-one k) j)))
+
+pub number-ends : (n k : ℕ) (w s t : List ℕ) (at r : ℕ) → Printed (take k w) s t at r → take k w ≡ digits 10 k n → Fewest 10 1 n k → n < 2 ^ 64 → Printed (decimal-of n) s t at r
+unfolding decimal-of
+number-ends n k w s t at r p e f h = rw (places-fewest 19 n k (omega arith) f, ← e) p
+
+pub blank-ends : (n : ℕ) (s t u : List ℕ) (at k r : ℕ) → Printed (decimal-of n) t u k r → Printed (32 ∷ []) s t at k → Printed (blank-decimal n) s u at r
+unfolding blank-decimal
+blank-ends n s t u at k r q p = joined (32 ∷ []) (decimal-of n) s t u at k r q p
+
+pub no-ends : (n : ℕ) (s t u v : List ℕ) (at k m r : ℕ) → Printed (10 ∷ []) u v m r → Printed (blank-decimal n) t u k m → Printed (110 ∷ 111 ∷ []) s t at k → Printed (no-number n) s v at r
+unfolding no-number
+no-ends n s t u v at k m r o q p = joined (110 ∷ 111 ∷ []) (blank-decimal n ++ (10 ∷ [])) s t v at k r (joined (blank-decimal n) (10 ∷ []) t u v k m r o q) p

@@ -1,6 +1,6 @@
 -- Reading a line byte by byte: the value of a digit, what one byte more leaves, and what the loop over bytes keeps.
 use mathlib.Core.Path.{_≡_, refl, sym, _∙_, ap}
-use mathlib.Core.Bool.{true, false}
+use mathlib.Core.Bool.{Bool, true, false}
 use mathlib.Core.List.{List, [], _∷_, _++_}
 use Prim.Native.Nat.{ℕ, _+_, _-_, _*_, _≤_, _<_}
 use native.Mathlib.Omega.{arith}
@@ -9,10 +9,11 @@ use lib.Dec.{ltb, leb, eqb}
 use lib.ListN.{length, take, drop, getD, set, length-set, drop-of-length-le}
 use lib.Seq.{take-suc-set, length-take-le, drop-cons}
 use borrow.Author.Tests.{lt-ltb, le-ltb, le-leb, lt-leb, eq-eqb, ne-eqb}
+use Rattle.lines.specs.declared.read.Got.the-variants.{Form, Bad}
 use Rattle.lines.specs.declared.read.Line.{Line}
 use Rattle.lines.specs.declared.read.Part.{Part}
 use Rattle.lines.specs.Hex.{digit-of}
-use Rattle.lines.specs.Line.{Seen, shown, keep, more, Walked, walked, walk, Took, Passed}
+use Rattle.lines.specs.Line.{Seen, shown, keep, more, judged, Walked, walked, walk, Took, Passed}
 
 -- a digit's value
 pub below : (x : ℕ) → x < 48 → 16 ≡ digit-of x
@@ -91,3 +92,16 @@ module _ (bytes : List ℕ) (from : ℕ) (f : List ℕ) (l : Line) where
   pub walk-ends : (g : List ℕ) (m : Line) (at : ℕ) → Walking bytes from f g l m at → length bytes ≤ at → Passed bytes from f g l (record { line = m; at = at; ended = false })
   unfolding walk
   walk-ends g m at v h = record { shows = rw (drop-of-length-le bytes h) at (v .same); within = v .within }
+
+-- a line that has ended
+pub judge-bad : (h : ℕ) (b : Bool) → b ≡ true → Bad ≡ judged h b
+unfolding judged
+judge-bad h b e = rw (e, judged)
+
+pub judge-half : (h : ℕ) (b : Bool) → b ≡ false → h < 16 → Bad ≡ judged h b
+unfolding judged
+judge-half h b e k = rw (e, lt-ltb h 16 k, judged)
+
+pub judge-form : (h : ℕ) (b : Bool) → b ≡ false → 16 ≤ h → Form ≡ judged h b
+unfolding judged
+judge-form h b e k = rw (e, le-ltb h 16 k, judged)

@@ -22,16 +22,21 @@ unfoldable pub before : ℕ → Option (List ℕ) → Option (List ℕ)
 before x none = none
 before x (some bs) = some (x ∷ bs)
 
--- what a line stands for: two digits a byte; nothing where it is not an even count of digits
-unfoldable pub decode : List ℕ → Option (List ℕ)
-unfolding digit-of before
-decode [] = some []
-decode (a ∷ []) = none
-decode (a ∷ b ∷ line) =
-    elim (ltb (digit-of a) 16) [
-      | true ↦ elim (ltb (digit-of b) 16) [ true ↦ before (digit-of a * 16 + digit-of b) (decode line) | false ↦ none ]
+-- the byte of two digits before the others; nothing where either is no digit
+unfoldable pub two-before : ℕ → ℕ → Option (List ℕ) → Option (List ℕ)
+unfolding before
+two-before x y others =
+    elim (ltb x 16) [
+      | true ↦ elim (ltb y 16) [ true ↦ before (x * 16 + y) others | false ↦ none ]
       | false ↦ none
     ]
+
+-- what a line stands for: two digits a byte; nothing where it is not an even count of digits
+unfoldable pub decode : List ℕ → Option (List ℕ)
+unfolding digit-of two-before
+decode [] = some []
+decode (a ∷ []) = none
+decode (a ∷ b ∷ line) = two-before (digit-of a) (digit-of b) (decode line)
 
 -- the digits of bytes, two for each
 unfoldable pub hex-of : List ℕ → List ℕ

@@ -5,6 +5,8 @@ use mathlib.Core.Bool.{Bool, true, false}
 use mathlib.Core.List.{List, [], _∷_, _++_}
 use lib.Dec.{eqb, ltb}
 use lib.ListN.{length, take, drop}
+use Rattle.lines.specs.declared.read.Got.{Got}
+use Rattle.lines.specs.declared.read.Got.the-variants.{Form, Bad}
 use Rattle.lines.specs.declared.read.Line.{Line}
 use Rattle.lines.specs.declared.read.Lines.{Lines}
 use Rattle.lines.specs.declared.read.Part.{Part}
@@ -36,6 +38,10 @@ more most s x =
       ]
       | false ↦ record { bytes = s .bytes; half = s .half; bad = true }
     ]
+
+-- what a line is that has ended: a form where no other byte was met and no digit waits
+unfoldable pub judged : ℕ → Bool → Got
+judged half bad = elim bad [ true ↦ Bad | false ↦ elim (ltb half 16) [ true ↦ Bad | false ↦ Form ] ]
 
 -- the line after some bytes, the place after these, and whether a newline ended it
 pub record Walked : Type 0 where

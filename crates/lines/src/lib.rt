@@ -1,16 +1,18 @@
-// Lines of lower-case hex on standard input, and text on standard output.
+// What a program needs that reads lines of lower-case hex and prints outcomes. It lends every byte: what reads fill, what a line's
+// digits make, and the text that waits to be written. No function asks for anything; no contract can say what is read or written.
 mod print;
 mod read;
 
 pub use print::flush;
-pub use print::no_line;
-pub use print::print_decimal;
 pub use print::print_hex;
 pub use print::print_no;
+pub use print::print_no_line;
+pub use print::print_number;
+pub use print::print_ok;
 pub use print::print_word;
 pub use read::Got;
 pub use read::Lines;
-pub use read::more;
+pub use read::left;
 pub use read::next_line;
 pub use read::next_two;
 pub use read::start;

@@ -5,7 +5,7 @@ ghost use Prim.Native.Nat.{_<_};
 ghost use mathlib.Core.List.{[], _∷_};
 ghost use Rattle.io.specs.Digits.{glyph};
 ghost use Rattle.lines.specs.Hex.{hex-of};
-ghost use Rattle.lines.specs.Text.{Printed, Decimal};
+ghost use Rattle.lines.specs.Text.{Printed, ok-tree, decimal-of, blank-decimal, no-number, no-line};
 
 // Writes what waits.
 pub fn flush(text: &[u8], at: usize) {
@@ -27,6 +27,7 @@ fn put(text: &mut [u8], at: usize, x: u8) -> usize
     0
 }
 
+// Bytes as they are.
 pub fn print_word(text: &mut [u8], at: usize, word: &[u8]) -> usize
     ensures { λ r. ⌜ Printed (now (word .entry)) (now (text .entry)) (now (text .exit)) at r ⌝ }
 {
@@ -67,22 +68,43 @@ pub fn print_hex(text: &mut [u8], at: usize, bytes: &[u8]) -> usize
     k
 }
 
-pub fn print_decimal(text: &mut [u8], at: usize, n: u64) -> usize
-    ensures { λ r. ⌜ Decimal n (now (text .entry)) (now (text .exit)) at r ⌝ }
+// The start of an answer's outcome: `ok`, and a tree's bytes.
+pub fn print_ok(text: &mut [u8], at: usize, tree: &[u8]) -> usize
+    ensures { λ r. ⌜ Printed (ok-tree (now (tree .entry))) (now (text .entry)) (now (text .exit)) at r ⌝ }
+{
+    let k = print_word(text, at, b"ok ");
+    print_hex(text, k, tree)
+}
+
+// A number's decimal digits.
+fn put_decimal(text: &mut [u8], at: usize, n: u64) -> usize
+    ensures { λ r. ⌜ Printed (decimal-of n) (now (text .entry)) (now (text .exit)) at r ⌝ }
 {
     let mut digits = [0u8; 20];
     let k = io::decimal(n, &mut digits);
     print_word(text, at, &digits[..k])
 }
 
-// The outcome of a line that was refused: `no`, and the refusal's number.
-pub fn print_no(text: &mut [u8], at: usize, number: u8) -> usize {
-    let a = print_word(text, at, b"no ");
-    let b = print_decimal(text, a, number as u64);
-    print_word(text, b, b"\n")
+// A blank and a number.
+pub fn print_number(text: &mut [u8], at: usize, n: u64) -> usize
+    ensures { λ r. ⌜ Printed (blank-decimal n) (now (text .entry)) (now (text .exit)) at r ⌝ }
+{
+    let k = put(text, at, b' ');
+    put_decimal(text, k, n)
+}
+
+// The outcome of a form that was refused: `no`, and the refusal's number.
+pub fn print_no(text: &mut [u8], at: usize, number: u8) -> usize
+    ensures { λ r. ⌜ Printed (no-number number) (now (text .entry)) (now (text .exit)) at r ⌝ }
+{
+    let a = print_word(text, at, b"no");
+    let b = print_number(text, a, number as u64);
+    put(text, b, b'\n')
 }
 
 // The outcome of a line that is not an even count of lower-case hex digits.
-pub fn no_line(text: &mut [u8], at: usize) -> usize {
+pub fn print_no_line(text: &mut [u8], at: usize) -> usize
+    ensures { λ r. ⌜ Printed no-line (now (text .entry)) (now (text .exit)) at r ⌝ }
+{
     print_word(text, at, b"no line\n")
 }

@@ -3,11 +3,11 @@
 use crate::print::flush;
 use libc::STDIN_FILENO;
 ghost use mathlib.Core.Path.{_≡_};
-ghost use Prim.Native.Nat.{_+_, _^_, _≤_, _<_};
+ghost use Prim.Native.Nat.{_+_, _-_, _^_, _≤_, _<_};
 ghost use lib.ListN.{length};
 ghost use Rattle.io.specs.Counts.{Counts};
 ghost use Rattle.lines.specs.Hex.{digit-of};
-ghost use Rattle.lines.specs.Line.{Took, Passed, Two};
+ghost use Rattle.lines.specs.Line.{judged, Took, Passed, Two};
 
 pub enum Got {
     // An even count of lower-case hex digits, none for an empty line.
@@ -31,17 +31,17 @@ pub struct Lines {
 
 // A line so far: form[..n] has the bytes that its digits made, half is the digit that waits for its second (16: none), bad says that
 // another byte was met.
-pub struct Line {
-    pub n: usize,
-    pub half: u8,
-    pub bad: bool,
+struct Line {
+    n: usize,
+    half: u8,
+    bad: bool,
 }
 
 // The line after some bytes, the place after these, and whether they ended it.
-pub struct Part {
-    pub line: Line,
-    pub at: usize,
-    pub ended: bool,
+struct Part {
+    line: Line,
+    at: usize,
+    ended: bool,
 }
 
 // The value of a digit; 16 for any other byte.
@@ -115,7 +115,9 @@ fn with_bytes(bytes: &[u8], from: usize, form: &mut [u8], l: Line) -> Part
 }
 
 // Bad where a byte was met that is no digit, or where a digit waits.
-fn verdict(l: Line) -> Got {
+fn verdict(l: Line) -> Got
+    ensures { λ r. ⌜ r ≡ judged (l .half) (l .bad) ⌝ }
+{
     if l.bad {
         return Got::Bad;
     }
@@ -153,14 +155,23 @@ pub fn start() -> Lines {
     }
 }
 
-// Whether the input had a line.
-pub fn more(s: Lines) -> bool {
+// How many turns of a program's loop are left: none where the input had no line. A proved loop ends, and nothing says that the input
+// does: so turns and reads are counted down, from a number that no run uses up.
+pub fn left(s: Lines, turns: u64) -> u64
+    ensures { λ r. ⌜ r ≤ turns - 1 ⌝ }
+{
     let g = s.got;
     match g {
-        Got::Form => true,
-        Got::Bad => true,
-        Got::End => false,
+        Got::Form => fewer(turns),
+        Got::Bad => fewer(turns),
+        Got::End => 0,
     }
+}
+
+fn fewer(turns: u64) -> u64
+    ensures { λ r. ⌜ r ≤ turns - 1 ⌝ }
+{
+    if 0 < turns { turns - 1 } else { 0 }
 }
 
 // Where the input ends: a last line needs no newline.
@@ -178,7 +189,6 @@ fn last(l: Line, begun: bool) -> Lines
 }
 
 // The next line: form[..n] has its bytes, or the first of them where form is too short for all.
-// A proved loop ends, and nothing says that the input does: so the reads are counted down, from a number that no run uses up.
 pub fn next_line(buf: &mut [u8], form: &mut [u8], text: &[u8], s: Lines) -> Lines
     ensures { λ r. ⌜ Counts (r .n) (now (form .exit)) ⌝ }
 {

@@ -13,7 +13,7 @@ use Rattle.meaning.proofs.CostEvaluate.{steady-evaluate}
 use Rattle.meaning.proofs.Walk.{Kept, walk-pass, walk-loop}
 
 -- to be steady is kept by the ways of putting work together
-abbrev to-be-steady : Kept
+abbrev pub to-be-steady : Kept
 to-be-steady = record {
   rel = λ m n. Steady of-run m;
   by-give = λ a. steady-give of-run a;

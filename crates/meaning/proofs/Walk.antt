@@ -40,7 +40,7 @@ module _ (K : Kept) where
 
   -- ---- the rules that do not call the driver
 
-  walk-constant : (r : Tree) → K .rel (constant-optimizer r) (constant-optimizer r)
+  pub walk-constant : (r : Tree) → K .rel (constant-optimizer r) (constant-optimizer r)
   unfolding constant-optimizer
   walk-constant r =
       by-if (not (is-quote r) && seems-constant r && non-nil r)
@@ -57,7 +57,7 @@ module _ (K : Kept) where
   walk-longer r (some (atom b)) q = walk-path-to (bytes-of (compose-paths (node-path-index b) q)) (misread b)
   walk-longer r (some (pair x y)) q = K .by-give r
 
-  walk-path : (r : Tree) → K .rel (path-optimizer r) (path-optimizer r)
+  pub walk-path : (r : Tree) → K .rel (path-optimizer r) (path-optimizer r)
   unfolding path-optimizer
   walk-path r = go (match-sexp (atom-pattern 5) r [])
     where

@@ -1,8 +1,8 @@
 -- Trees laid one after the other, and patterns that stay laid. Assumes nothing.
-use Prim.Native.Nat.{ℕ, _+_, _≤_}
+use Prim.Native.Nat.{ℕ, _+_}
 use native.Mathlib.Omega.{arith}
-use mathlib.Core.Path.{_≡_, refl, sym, _∙_, ap, ap₂}
-use mathlib.Core.List.{List, [], _∷_}
+use mathlib.Core.Path.{_≡_, refl, _∙_, ap, ap₂}
+use mathlib.Core.List.{List}
 use lib.ListN.{length}
 use Rattle.meaning.specs.Tree.{Tree, atom, pair, nil, byte, enlist}
 use Rattle.meaning.specs.Match.{atom-match}
@@ -11,9 +11,9 @@ use Rattle.meaning.specs.Rules.{cons-optimizer-pattern, sexp-name, args-name, a
 use Rattle.store.specs.declared.Charges.{Charges}
 use Rattle.store.specs.declared.Laid.{Laid}
 use Rattle.store.specs.Nodes.{treeAt}
-use Rattle.store.specs.Store.{Held, Ready, free-limit}
-use Rattle.store.specs.Makers.{Grown, Stands, LaidOk}
-use Rattle.store.proofs.Ready.{grown-both, grown-ready, grown-tree, nil-ready}
+use Rattle.store.specs.Store.{Ready}
+use Rattle.store.specs.Makers.{Grown, LaidOk}
+use Rattle.store.proofs.Ready.{grown-both, grown-ready, grown-tree}
 use Rattle.patterns.specs.declared.Patterns.{Patterns}
 use Rattle.patterns.specs.declared.Both.{Both}
 use Rattle.patterns.specs.declared.Others.{Others}

@@ -1,9 +1,7 @@
 // The rules' patterns as nodes, laid once and free of units, below the form's.
 use store::Charges;
 use store::Laid;
-ghost use mathlib.Core.Path.{_≡_};
-ghost use mathlib.Core.List.{List, [], _∷_};
-ghost use Prim.Native.Nat.{ℕ, _+_, _≤_};
+ghost use Prim.Native.Nat.{_+_, _≤_};
 ghost use lib.ListN.{length};
 ghost use Rattle.meaning.specs.Tree.{atom, pair, nil, byte};
 ghost use Rattle.meaning.specs.Substitute.{cons-pattern};

@@ -1,38 +1,36 @@
 -- Rule 2: what each return needs. Assumes nothing.
-use Prim.Native.Nat.{ℕ, _+_, _≤_, _<_}
-use mathlib.Core.Path.{_≡_, refl, sym, _∙_, ap, ap₂}
+use Prim.Native.Nat.{ℕ, _+_}
+use mathlib.Core.Path.{_≡_, refl, sym, _∙_, ap}
 use mathlib.Core.List.{List, [], _∷_}
 use mathlib.Core.Bool.{Bool, true, false, _&&_, not}
-use mathlib.Core.Option.{Option, none, some}
+use mathlib.Core.Option.{some}
 use Rattle.refusals.specs.declared.Refusal.{Refusal}
-use Rattle.meaning.specs.Tree.{Tree, atom, pair, nil, equal-to, is-byte, is-empty, non-nil, is-quote, quote}
-use Rattle.meaning.specs.Limits.{unit-limit, pair-cost}
-use Rattle.meaning.specs.Meter.{Out, done, stop, Steps, Spent, W, _>>=_, _>>_, give, charge, within}
+use Rattle.meaning.specs.Tree.{Tree, atom, pair, nil, is-empty, non-nil, is-quote, quote}
+use Rattle.meaning.specs.Limits.{pair-cost}
+use Rattle.meaning.specs.Meter.{Out, done, stop, Steps, Spent, W, _>>_, give, charge, within}
 use Rattle.meaning.specs.Evaluate.{evaluate}
 use Rattle.meaning.specs.Constant.{seems-constant}
 use Rattle.meaning.specs.Rules.{constant-optimizer}
-use Rattle.meaning.proofs.MeterLaws.{bind-at, seq-at, seq-stop}
+use Rattle.meaning.proofs.MeterLaws.{bind-at}
 use Rattle.meaning.proofs.BindLaws.{bind-stop}
 use Rattle.meaning.proofs.RuleDiffers.{quote-differs, is-worked-out, constant-gives, constant-same}
 use Rattle.store.specs.declared.Cell.{Cell}
 use Rattle.store.specs.declared.Cell.the-variants.{Pair, Atom}
 use Rattle.store.specs.declared.Charges.{Charges}
 use Rattle.store.specs.declared.Made.{Made}
-use Rattle.store.specs.declared.Made.the-variants.{Node}
-use Rattle.store.specs.declared.Made.the-variants.{Refused as Made·Refused}
-use Rattle.store.specs.Cells.{cellAt, bytesAt}
+use Rattle.store.specs.Cells.{cellAt}
 use Rattle.store.specs.Nodes.{treeAt}
-use Rattle.store.specs.Store.{Held, Ready}
-use Rattle.store.specs.Makers.{Grown, Bought, Over, MadeOk, Answered}
-use Rattle.store.proofs.Ready.{grown-none, grown-both, grown-ready, grown-tree, look-pair, look-atom}
+use Rattle.store.specs.Store.{Ready}
+use Rattle.store.specs.Makers.{Grown, MadeOk, Answered}
+use Rattle.store.proofs.Ready.{grown-none, grown-ready, grown-tree, look-pair, look-atom}
 use Rattle.sexp.specs.Tests.{is-byte-tree, is-nil}
 use Rattle.evaluator.specs.declared.Meter.{Meter}
 use Rattle.evaluator.specs.declared.Valued.{Valued}
 use Rattle.evaluator.specs.declared.Valued.the-variants.{Value, Refused}
 use Rattle.evaluator.specs.Values.{state, stopped, Given, ValuedOk}
-use Rattle.rules.specs.declared.Outcome.the-variants.{Same, Changed, Stopped}
+use Rattle.rules.specs.declared.Outcome.the-variants.{Same, Stopped}
 use Rattle.rules.specs.declared.Work.{Work}
-use Rattle.rules.specs.Work.{spentOf, with-last, work-made, Says, Did}
+use Rattle.rules.specs.Work.{spentOf, with-last, work-made, Did}
 use Rattle.rules.specs.Rule.{worked-out}
 use Rattle.rules.proofs.Does.{did-same, did-stopped, did-after}
 use Rattle.rules.proofs.Charged.{did-made}

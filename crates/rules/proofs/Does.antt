@@ -1,7 +1,7 @@
 -- How work comes to say what it says, and what follows where it went on after other work. Assumes nothing.
 use Prim.Native.Nat.{ℕ}
 use native.Mathlib.Omega.{arith}
-use mathlib.Core.Path.{_≡_, refl, sym, _∙_, ap}
+use mathlib.Core.Path.{_≡_, refl}
 use mathlib.Core.List.{List}
 use mathlib.Core.Bool.{Bool, true, false, _||_}
 use Rattle.refusals.specs.declared.Refusal.{Refusal}

@@ -1,6 +1,6 @@
 -- What the matcher found, with the patterns as the definitions have them. Assumes nothing.
 use Prim.Native.Nat.{ℕ}
-use mathlib.Core.Path.{_≡_, refl, sym, _∙_, ap}
+use mathlib.Core.Path.{_≡_, sym, ap}
 use mathlib.Core.List.{List, []}
 use mathlib.Core.Option.{Option, none, some}
 use Rattle.meaning.specs.Tree.{Tree}
@@ -10,7 +10,6 @@ use Rattle.store.specs.declared.Charges.{Charges}
 use Rattle.store.specs.Nodes.{treeAt}
 use Rattle.store.specs.Store.{Ready}
 use Rattle.store.specs.Makers.{Grown}
-use Rattle.store.proofs.Ready.{grown-ready, grown-tree}
 use Rattle.pattern.specs.declared.Bindings.{Bindings}
 use Rattle.pattern.specs.declared.Match.{Match}
 use Rattle.pattern.specs.declared.Match.the-variants.{Matched, NoMatch, TooManyNames}

@@ -1,20 +1,18 @@
 -- Rule 6: what each call and each return needs. Assumes nothing.
-use Prim.Native.Nat.{ℕ, _+_, _-_, _≤_, _<_}
+use Prim.Native.Nat.{ℕ, _-_, _≤_, _<_}
 use native.Mathlib.Omega.{arith}
-use mathlib.Core.Path.{_≡_, refl, sym, _∙_, ap, ap₂, subst}
+use mathlib.Core.Path.{_≡_, refl, sym, _∙_, ap}
 use mathlib.Core.List.{List, []}
-use mathlib.Core.Bool.{Bool, true, false, _||_}
-use mathlib.Core.Option.{Option, none, some}
-use lib.Dec.{leb}
+use mathlib.Core.Bool.{_||_}
+use mathlib.Core.Option.{some}
 use lib.ListN.{length, take, drop, length-take, length-drop}
 use lib.Seq.{take-all}
 use borrow.Author.Tests.{le-leb, lt-leb}
-use Rattle.refusals.specs.declared.Refusal.{Refusal}
 use Rattle.refusals.specs.declared.Refusal.the-variants.{PathLong}
-use Rattle.meaning.specs.Tree.{Tree, atom, pair, equal-to}
-use Rattle.meaning.specs.Limits.{path-limit, atom-limit, atom-cost}
+use Rattle.meaning.specs.Tree.{atom}
+use Rattle.meaning.specs.Limits.{path-limit, atom-cost}
 use Rattle.meaning.specs.Number.{node-path-index, compose-paths, bytes-of}
-use Rattle.meaning.specs.Meter.{Out, done, stop, Spent, _>>_, give, charge, mark-if}
+use Rattle.meaning.specs.Meter.{stop, Spent, _>>_, give, charge, mark-if}
 use Rattle.meaning.specs.Match as meaning
 use Rattle.meaning.specs.Rules.{atom-name, atom-pattern, path-to, longer, path-optimizer}
 use Rattle.meaning.specs.Rules.{misread as Rules·misread}
@@ -29,7 +27,6 @@ use Rattle.store.specs.Nodes.{treeAt}
 use Rattle.store.specs.Store.{Held, Ready}
 use Rattle.store.specs.Makers.{Grown, MadeOk}
 use Rattle.store.proofs.Ready.{room, grown-none, grown-ready, grown-tree, look-pair, look-atom}
-use Rattle.store.proofs.Trees.{tree-atom}
 use Rattle.paths.specs.declared.node_path.Lengthened.{Lengthened}
 use Rattle.paths.proofs.ShortestLaws.{held-len}
 use Rattle.lengthen.specs.Lengthens.{Lengthens}
@@ -40,15 +37,15 @@ use Rattle.pattern.specs.declared.Got.{Got}
 use Rattle.pattern.specs.declared.Got.the-variants.{At, Nothing}
 use Rattle.pattern.specs.Bound.{bindingsAt, Named, MatchOk, gotAt, GotIn, GotOk}
 use Rattle.patterns.specs.declared.Patterns.{Patterns}
-use Rattle.patterns.specs.Patterns.{Shows, Patterned}
-use Rattle.patterns.proofs.Laws.{shows-grown, patterned-grown}
-use Rattle.rules.specs.declared.Outcome.the-variants.{Same, Changed, Stopped}
+use Rattle.patterns.specs.Patterns.{Patterned}
+use Rattle.patterns.proofs.Laws.{patterned-grown}
+use Rattle.rules.specs.declared.Outcome.the-variants.{Same, Stopped}
 use Rattle.rules.specs.declared.Work.{Work}
 use Rattle.rules.specs.Work.{spentOf, with-last, marked-work, work-made, Did}
 use Rattle.rules.specs.Rule.{PathAsks, LongerAsks}
 use Rattle.rules.proofs.Does.{did-same, did-stopped, did-after}
 use Rattle.rules.proofs.Charged.{did-made}
-use Rattle.rules.proofs.Found.{found-tree, match-bindings, match-none, match-many, at-pattern}
+use Rattle.rules.proofs.Found.{match-bindings, match-none, match-many, at-pattern}
 
 -- ---- the atom
 

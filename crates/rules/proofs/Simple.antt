@@ -3,9 +3,9 @@ use Prim.Native.Nat.{ℕ}
 use mathlib.Core.Path.{_≡_, refl, sym, _∙_, ap, ap₂}
 use mathlib.Core.List.{List, []}
 use mathlib.Core.Bool.{Bool, true, false}
-use mathlib.Core.Option.{Option, none, some}
+use mathlib.Core.Option.{Option, none}
 use Rattle.meaning.specs.Tree.{Tree, atom, pair, nil, equal-to}
-use Rattle.meaning.specs.Meter.{Out, done, give}
+use Rattle.meaning.specs.Meter.{done, give}
 use Rattle.meaning.specs.Match as meaning
 use Rattle.meaning.specs.Substitute.{first-name, rest-name}
 use Rattle.meaning.specs.Rules.{cons-optimizer-pattern, cons-optimizer, sexp-name, args-name, apply-pattern, applied, not-applied, both-got, applied-of, is-args-call, cons-q-a-optimizer, quote-pattern-1, quote-null-optimizer, apply-null-pattern-1, apply-null-optimizer}

@@ -1,14 +1,13 @@
 -- What each call and each return of substitution needs. Assumes nothing.
-use Prim.Native.Nat.{ℕ, _+_, _*_, _≤_, _<_}
+use Prim.Native.Nat.{ℕ, _+_, _*_, _<_}
 use native.Mathlib.Omega.{arith}
 use native.Mathlib.Nat.{add-comm}
 use mathlib.Core.Path.{_≡_, refl, sym, _∙_, ap, ap₂}
-use mathlib.Core.List.{List, []}
-use mathlib.Core.Bool.{Bool, true, false, _&&_, _||_, not}
-use lib.ListN.{length}
+use mathlib.Core.List.{List}
+use mathlib.Core.Bool.{Bool, true, false, _||_}
 use Rattle.refusals.specs.declared.Refusal.{Refusal}
 use Rattle.meaning.specs.Tree.{Tree, atom, pair, is-byte}
-use Rattle.meaning.specs.Limits.{unit-limit, pair-cost}
+use Rattle.meaning.specs.Limits.{pair-cost}
 use Rattle.meaning.specs.Substitute.{sub-turns, is-low, path-from-args, path-cost, is-proper, sub-args, sub-each, sub-cost, sub-each-cost, reads-low, reads-low-each}
 use Rattle.store.specs.declared.Cell.{Cell}
 use Rattle.store.specs.declared.Cell.the-variants.{Pair, Atom}
@@ -17,9 +16,9 @@ use Rattle.store.specs.declared.Made.{Made}
 use Rattle.store.specs.declared.Made.the-variants.{Node, Refused}
 use Rattle.store.specs.Cells.{cellAt, bytesAt}
 use Rattle.store.specs.Nodes.{treeAt}
-use Rattle.store.specs.Store.{Held, Ready}
-use Rattle.store.specs.Makers.{Grown, Bought, Over, MadeOk}
-use Rattle.store.proofs.Ready.{grown-none, grown-both, grown-ready, grown-tree, fall-left, fall-right, look-pair, look-atom, ready-left, ready-right}
+use Rattle.store.specs.Store.{Ready}
+use Rattle.store.specs.Makers.{Grown, Over, MadeOk}
+use Rattle.store.proofs.Ready.{grown-none, grown-ready, grown-tree, fall-left, fall-right, look-pair, look-atom, ready-right}
 use Rattle.sexp.specs.Tests.{is-byte-tree}
 use Rattle.pattern.specs.Bound.{Named}
 use Rattle.patterns.specs.declared.Patterns.{Patterns}

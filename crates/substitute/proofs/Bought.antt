@@ -1,7 +1,7 @@
 -- One purchase after another. Assumes nothing.
-use Prim.Native.Nat.{ℕ, _+_, _≤_, _<_}
+use Prim.Native.Nat.{ℕ, _+_, _<_}
 use native.Mathlib.Omega.{arith}
-use mathlib.Core.Path.{_≡_, refl, sym, _∙_, ap, ap₂}
+use mathlib.Core.Path.{_≡_, refl, _∙_, ap₂}
 use mathlib.Core.List.{List, [], _∷_}
 use mathlib.Core.Bool.{Bool}
 use Rattle.refusals.specs.declared.Refusal.{Refusal}
@@ -11,11 +11,10 @@ use Rattle.store.specs.declared.Charges.{Charges}
 use Rattle.store.specs.declared.Made.{Made}
 use Rattle.store.specs.declared.Made.the-variants.{Node, Refused}
 use Rattle.store.specs.Nodes.{treeAt}
-use Rattle.store.specs.Store.{Held, Ready}
-use Rattle.store.specs.Makers.{Grown, Stands, Bought, Over, MadeOk}
-use Rattle.store.proofs.Ready.{grown-none, grown-both, grown-ready, grown-tree, nil-ready}
+use Rattle.store.specs.Store.{Ready}
+use Rattle.store.specs.Makers.{Grown, Bought, Over, MadeOk}
+use Rattle.store.proofs.Ready.{grown-both, grown-ready, grown-tree, nil-ready}
 use Rattle.store.proofs.Charging.{made-node, made-over}
-use Rattle.substitute.specs.declared.Sub.{Sub}
 use Rattle.substitute.specs.declared.Sub.the-variants as sub
 use Rattle.substitute.specs.Sub.{sub-made}
 

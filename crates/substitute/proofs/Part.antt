@@ -1,10 +1,9 @@
 -- `cons_f` and `cons_r`: what they give and cost, where the arguments are (c A B) and where they are not. Assumes nothing.
 use Prim.Native.Nat.{ℕ, _+_}
-use native.Mathlib.Omega.{arith}
 use mathlib.Core.Path.{_≡_, refl, sym, _∙_, ap}
 use mathlib.Core.List.{List, [], _∷_}
 use mathlib.Core.Bool.{Bool, true, false}
-use mathlib.Core.Option.{Option, none, some}
+use mathlib.Core.Option.{none, some}
 use Rattle.meaning.specs.Tree.{Tree, pair, nil, byte, enlist}
 use Rattle.meaning.specs.Limits.{pair-cost}
 use Rattle.meaning.specs.Match.{Match, matched, no-match, too-many-names, match-sexp, got}
@@ -17,7 +16,7 @@ use Rattle.store.specs.declared.Made.{Made}
 use Rattle.store.specs.declared.Made.the-variants.{Node}
 use Rattle.store.specs.Nodes.{treeAt}
 use Rattle.store.specs.Store.{Ready}
-use Rattle.store.specs.Makers.{Grown, MadeOk}
+use Rattle.store.specs.Makers.{MadeOk}
 use Rattle.store.proofs.Ready.{grown-ready, grown-tree}
 use Rattle.pattern.specs.declared.Got.{Got}
 use Rattle.pattern.specs.declared.Got.the-variants.{At, Nothing}

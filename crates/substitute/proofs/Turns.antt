@@ -1,16 +1,14 @@
 -- The turns of an atom's path, one after the other. Assumes nothing.
-use Prim.Native.Nat.{ℕ, suc, _+_, _^_, _≤_, _<_}
+use Prim.Native.Nat.{ℕ, _+_, _^_, _≤_, _<_}
 use native.Mathlib.Omega.{arith}
-use native.Mathlib.Numerals.{add-one}
-use mathlib.Core.Path.{_≡_, refl, sym, _∙_, ap, ap₂, subst}
+use mathlib.Core.Path.{_≡_, refl, sym, _∙_, ap}
 use mathlib.Core.List.{List, [], _∷_}
 use mathlib.Core.Bool.{Bool, true, false}
 use lib.ListN.{length, getD, drop, drop-of-length-le}
-use lib.Seq.{drop-cons}
 use Rattle.refusals.specs.declared.Refusal.{Refusal}
 use Rattle.meaning.specs.Tree.{Tree, atom, pair}
 use Rattle.meaning.specs.Limits.{unit-limit}
-use Rattle.meaning.specs.Number.{number, negative, number-from-u8, turns}
+use Rattle.meaning.specs.Number.{number, turns}
 use Rattle.meaning.specs.Substitute.{sub-turns, is-low, part-cost, path-from-args, path-cost}
 use Rattle.store.specs.declared.Cell.{Cell}
 use Rattle.store.specs.declared.Cell.the-variants.{Pair, Atom}
@@ -19,11 +17,13 @@ use Rattle.store.specs.declared.Made.{Made}
 use Rattle.store.specs.declared.Made.the-variants.{Node, Refused}
 use Rattle.store.specs.Cells.{Room, cellAt, bytesAt}
 use Rattle.store.specs.Nodes.{treeAt}
-use Rattle.store.specs.Store.{Held, Ready}
+use Rattle.store.specs.Store.{Ready}
 use Rattle.store.specs.Makers.{Grown, Bought, Over, MadeOk}
 use Rattle.store.proofs.Ready.{room, grown-none, grown-both, grown-ready, grown-tree, atom-short}
 use Rattle.store.proofs.Trees.{tree-atom, tree-pair}
 use Rattle.store.proofs.Charging.{made-node, made-over}
+use Rattle.paths.proofs.TurnLaws.{next-turn}
+use Rattle.paths.proofs.SignedLaws.{sub-turns-are}
 use Rattle.pattern.specs.Bound.{Named}
 use Rattle.patterns.specs.declared.Patterns.{Patterns}
 use Rattle.patterns.specs.Patterns.{Patterned}
@@ -53,20 +53,13 @@ bytes-grown {f} {s} {s′} {c} {c′} {n} g h = go (cellAt s′ n) refl
     go (Pair l r) e = let y : pair (treeAt f s′ l) (treeAt f s′ r) ≡ atom (bytesAt f s n) = sym (tree-pair f s′ n l r e) ∙ z in cc
     go Atom e = let y : atom (bytesAt f s′ n) ≡ atom (bytesAt f s n) = sym (tree-atom f s′ n e) ∙ z in cc
 
--- where there is a turn, the signed reading is the unsigned one
-pub signed-turns : (b : List ℕ) (i : ℕ) → i < length (sub-turns b) → sub-turns b ≡ turns (number b)
-unfolding sub-turns number-from-u8
-signed-turns b i h = go (negative b) refl
-  where
-    go : (d : Bool) → negative b ≡ d → sub-turns b ≡ turns (number b)
-    go true e = let z : length (sub-turns b) ≡ 0 = rw (e, sub-turns, number-from-u8) in absurd (omega arith)
-    go false e = rw (e, sub-turns, number-from-u8)
+-- ---- a turn: where there is one, the signed reading is the unsigned one
 
 pub turn-within : (b z : List ℕ) (i : ℕ) → z ≡ b → i < length (sub-turns b) → i < length (turns (number z))
-turn-within b z i e h = rw (e, ← signed-turns b i h) h
+turn-within b z i e h = rw (e, ← sub-turns-are b i h) h
 
 pub turn-read : (b z : List ℕ) (i : ℕ) (r : Bool) → r ≡ getD (turns (number z)) i false → z ≡ b → i < length (sub-turns b) → r ≡ getD (sub-turns b) i false
-turn-read b z i r k e h = rw (signed-turns b i h, ← e) k
+turn-read b z i r k e h = rw (sub-turns-are b i h, ← e) k
 
 -- ---- one turn of the path
 
@@ -107,19 +100,14 @@ module _ (f s₀ s : List ℕ) (c₀ c : Charges) (n args count a i : ℕ) (w : 
 
   -- the turn that is next
   module _ (right : Bool) (l : i < count) (e : right ≡ getD (sub-turns (bytesAt f s n)) i false) (h : Named f s₀ c₀ n) where
-    ts : List Bool
-    ts = sub-turns (bytesAt f s₀ n)
-
-    next : drop i ts ≡ right ∷ drop (i + 1) ts
-    unfolding ts
+    next : drop i (sub-turns (bytesAt f s₀ n)) ≡ right ∷ drop (i + 1) (sub-turns (bytesAt f s₀ n))
     next =
         let o : count ≡ length (sub-turns (bytesAt f s₀ n)) = w .counted in
         let k : i < length (sub-turns (bytesAt f s₀ n)) = omega arith in
-        rw (e, bytes-grown (w .grown) h, add-one) (drop-cons ts i false k)
+        next-turn (sub-turns (bytesAt f s₀ n)) i right k (rw (bytes-grown (w .grown) h) at e)
 
     module _ (s₁ : List ℕ) (m : Made) (b : MadeOk f s s₁ c (part-cost (treeAt f s a)) (cons-part right (treeAt f s a)) m) where
       pub walk-again : (q : ℕ) (d : Charges) → m ≡ Node q d → Walking f s₀ s₁ c₀ d n args count q (i + 1)
-      unfolding ts
       walk-again q d z =
           let y : Bought f s s₁ c d (part-cost (treeAt f s a)) q (cons-part right (treeAt f s a)) = made-node f s s₁ c _ _ m b q d z in
           let u : d .units ≡ c .units + part-cost (treeAt f s a) = y .units in
@@ -137,7 +125,7 @@ module _ (f s₀ s : List ℕ) (c₀ c : Charges) (n args count a i : ℕ) (w : 
           }
 
       pub walk-stops : (s′ : List ℕ) (r : Refusal) → m ≡ Refused r → MadeOk f s₀ s′ c₀ (path-cost (sub-turns (bytesAt f s₀ n)) (treeAt f s₀ args)) (path-from-args (sub-turns (bytesAt f s₀ n)) (treeAt f s₀ args)) (Refused r)
-      unfolding ts MadeOk
+      unfolding MadeOk
       walk-stops s′ r z =
           let o : Over c (part-cost (treeAt f s a)) r = made-over f s s₁ c _ _ m b r z in
           let x : unit-limit < c .units + part-cost (treeAt f s a) = o .over in

@@ -1,6 +1,5 @@
 -- marked: an answer for each need; what carries weight stands in the laws.
 use Rattle.rules.proofs.Does as does
-use borrow.Author.Needs.{needs}
 use Rattle.rules.proofs.marked.Statement.{statement}
 use Rattle.rules.proofs.marked.Tie as tie
 

@@ -1,6 +1,5 @@
 -- count_turns: an answer for each need; what carries weight stands in the laws.
 use Rattle.substitute.proofs.Turns as turns
-use borrow.Author.Needs.{needs}
 use Rattle.substitute.proofs.count_turns.Statement.{statement}
 use Rattle.substitute.proofs.count_turns.Tie as tie
 

@@ -1,6 +1,5 @@
 -- operator: an answer for each need; what carries weight stands in the laws.
 use Rattle.substitute.proofs.Part as part
-use borrow.Author.Needs.{needs}
 use Rattle.substitute.proofs.operator.Statement.{statement}
 use Rattle.substitute.proofs.operator.Tie as tie
 

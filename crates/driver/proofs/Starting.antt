@@ -1,0 +1,24 @@
+-- optimize_node: the outermost call. Assumes nothing.
+use mathlib.Core.Path.{_≡_}
+use mathlib.Core.List.{List}
+use Prim.Native.Nat.{ℕ, _-_}
+use native.Mathlib.Omega.{arith}
+use Rattle.meaning.specs.Limits.{nesting-limit}
+use Rattle.meaning.specs.Driver.{optimize-sexp}
+use Rattle.meaning.proofs.Atoms.{Narrow}
+use Rattle.store.specs.declared.Charges.{Charges}
+use Rattle.store.specs.Nodes.{treeAt}
+use Rattle.store.specs.Store.{Ready}
+use Rattle.patterns.specs.declared.Patterns.{Patterns}
+use Rattle.patterns.specs.Patterns.{Patterned}
+use Rattle.rules.specs.declared.Work.{Work}
+use Rattle.rules.specs.Work.{spentOf, Did}
+use Rattle.driver_parts.specs.Turns.{Fine, fresh-work}
+
+module _ (f s : List ℕ) (w : Work) (c : Charges) (n : ℕ) (e : w ≡ fresh-work c) where
+  pub start-fine : (p : Patterns) → Ready f s c n → Patterned f s c p → Narrow (treeAt f s n) → Fine f s w p n
+  start-fine p r a b = rw e (record { ready = r; patterned = a; passes = omega arith; narrow = b })
+
+  pub started : (t : List ℕ) (v : Work) → Did f s t w (treeAt f s n) (optimize-sexp (65 - 1) (treeAt f s n) (spentOf w)) v
+      → Did f s t (fresh-work c) (treeAt f s n) (optimize-sexp nesting-limit (treeAt f s n) (spentOf (fresh-work c))) v
+  started t v d = rw e at d

@@ -1,0 +1,378 @@
+// `optimize_sexp_`: the driver's loop, and the rules that call it.
+use patterns::Patterns;
+use refusals::Refusal;
+use rules::Applied;
+use rules::Outcome;
+use rules::Work;
+use store::Cell;
+use store::Charges;
+use substitute::Sub;
+ghost use mathlib.Core.Path.{_≡_};
+ghost use mathlib.Core.Bool.{true, false};
+ghost use Prim.Native.Nat.{_+_, _-_, _≤_, _<_};
+ghost use Rattle.meaning.specs.Limits.{nesting-limit};
+ghost use Rattle.meaning.specs.Rules.{settle, var-change-optimizer-cons-eval, children-optimizer};
+ghost use Rattle.meaning.specs.Driver.{optimize-sexp};
+ghost use Rattle.meaning.proofs.Atoms.{Narrow};
+ghost use Rattle.store.specs.Nodes.{treeAt};
+ghost use Rattle.store.specs.Store.{Ready};
+ghost use Rattle.patterns.specs.Patterns.{Patterned};
+ghost use Rattle.rules.specs.Work.{spentOf, Did};
+ghost use Rattle.driver_parts.specs.Turns.{again, optimizer, Fine, fresh-work};
+ghost use Rattle.driver_parts.specs.Walk.{walk, Walked};
+
+// A finished expression: 12 bytes.
+pub struct Entry {
+    pub expr: u16,
+    pub result: u16,
+    pub passes: u32,
+    pub units: u16,
+    pub height: u8,
+}
+
+// What a run has spent, and the memo.
+pub struct State {
+    pub w: Work,
+    pub used: usize,
+    pub memo: [Entry; 256],
+}
+
+// Works a list's elements left to right, 64 at a time; what was found goes down, the verdict comes up, and then the list is made.
+fn operands(
+    form: &[u8],
+    room: &mut [u8],
+    p: Patterns,
+    st: State,
+    list: usize,
+    nest: usize,
+    count: bool,
+    flag: bool,
+) -> State
+    requires { ⌜ Fine (now form) (now room) (st .w) p list × (nest < 65) ⌝ }
+    ensures { λ r. ⌜ Walked (now (form .entry)) (now (room .entry)) (now (room .exit)) (st .w) (walk count (again nest) flag (treeAt (now (form .entry)) (now (room .entry)) list) (spentOf (st .w))) (r .w) ⌝ }
+{
+    let mut s = st;
+    let mut q = list;
+    let mut seen = flag;
+    let mut got: [u16; 64] = [0; 64];
+    let mut k: usize = 0;
+    loop {
+        match store::look_node(room, q) {
+            Cell::Atom => {
+                let c = s.w;
+                let d = driver_parts::build(
+                    form,
+                    room,
+                    c,
+                    got,
+                    k,
+                    q,
+                    driver_parts::is_made(count, seen),
+                );
+                s.w = d;
+                return s;
+            }
+            Cell::Pair(h, t) => {
+                if 64 <= k {
+                    s = operands(form, room, p, s, q, nest, count, seen);
+                    let c = s.w;
+                    let o = c.last;
+                    match o {
+                        Outcome::Changed(m) => {
+                            let d = driver_parts::build(form, room, c, got, k, m, true);
+                            s.w = d;
+                            return s;
+                        }
+                        Outcome::Same => {
+                            return s;
+                        }
+                        Outcome::Stopped(_) => {
+                            return s;
+                        }
+                    }
+                }
+                match store::look_node(room, h) {
+                    Cell::Atom => {
+                        if 64 <= nest {
+                            let c = s.w;
+                            let d = rules::with(c, Outcome::Stopped(Refusal::TooDeep));
+                            s.w = d;
+                            return s;
+                        }
+                        got[k] = h as u16;
+                        k += 1;
+                    }
+                    Cell::Pair(_, _) => {
+                        s = drive(form, room, p, s, h, nest + 1);
+                        let c = s.w;
+                        let o = c.last;
+                        match o {
+                            Outcome::Changed(m) => {
+                                got[k] = m as u16;
+                                k += 1;
+                                seen = driver_parts::flag_after(form, room, m, count, true, seen);
+                            }
+                            Outcome::Same => {
+                                got[k] = h as u16;
+                                k += 1;
+                                seen = driver_parts::flag_after(form, room, h, count, false, seen);
+                            }
+                            Outcome::Stopped(_) => {
+                                return s;
+                            }
+                        }
+                    }
+                }
+                q = t;
+            }
+        }
+    }
+}
+
+// ---- 4. `var_change_optimizer_cons_eval`
+
+// What becomes of the changed body `new` of r.
+fn settle(
+    form: &[u8],
+    room: &mut [u8],
+    p: Patterns,
+    st: State,
+    r: usize,
+    new: usize,
+    low: bool,
+    nest: usize,
+) -> State
+    requires { ⌜ Fine (now form) (now room) (st .w) p r × Fine (now form) (now room) (st .w) p new × (nest < 65) ⌝ }
+    ensures { λ q. ⌜ Did (now (form .entry)) (now (room .entry)) (now (room .exit)) (st .w) (treeAt (now (form .entry)) (now (room .entry)) r) (settle (again nest) (treeAt (now (form .entry)) (now (room .entry)) r) (treeAt (now (form .entry)) (now (room .entry)) new) low (spentOf (st .w))) (q .w) ⌝ }
+{
+    let mut s = st;
+    let c = s.w;
+    let ch = c.ch;
+    if seems::seems_constant(form, room, ch, new) {
+        s = drive(form, room, p, s, new, nest + 1);
+        let d = s.w;
+        let o = d.last;
+        match o {
+            Outcome::Stopped(_) => {
+                return s;
+            }
+            Outcome::Same => {
+                let e = driver_parts::keep(form, room, d, r, new, low);
+                s.w = e;
+                return s;
+            }
+            Outcome::Changed(m) => {
+                let e = driver_parts::keep(form, room, d, r, m, low);
+                s.w = e;
+                return s;
+            }
+        }
+    }
+    if !sexp::proper_list_node(form, room, new) {
+        let d = rules::with(c, Outcome::Same);
+        s.w = d;
+        return s;
+    }
+    s = operands(form, room, p, s, new, nest, true, false);
+    let d = s.w;
+    let o = d.last;
+    match o {
+        Outcome::Stopped(_) => {
+            return s;
+        }
+        Outcome::Same => {
+            return s;
+        }
+        Outcome::Changed(m) => {
+            let e = driver_parts::keep(form, room, d, r, m, low);
+            s.w = e;
+            return s;
+        }
+    }
+}
+
+fn var_change(form: &[u8], room: &mut [u8], p: Patterns, st: State, n: usize, nest: usize) -> State
+    requires { ⌜ Fine (now form) (now room) (st .w) p n × (nest < 65) ⌝ }
+    ensures { λ q. ⌜ Did (now (form .entry)) (now (room .entry)) (now (room .exit)) (st .w) (treeAt (now (form .entry)) (now (room .entry)) n) (var-change-optimizer-cons-eval (again nest) (treeAt (now (form .entry)) (now (room .entry)) n) (spentOf (st .w))) (q .w) ⌝ }
+{
+    let mut s = st;
+    let c = s.w;
+    let ch = c.ch;
+    match rules::applied_of(form, room, p, ch, n) {
+        Applied::Other => {
+            let d = rules::with(c, Outcome::Same);
+            s.w = d;
+            return s;
+        }
+        Applied::Call(b, a) => match substitute::sub_args(form, room, p, ch, b, a) {
+            Sub::Refused(e) => {
+                let d = rules::with(c, Outcome::Stopped(e));
+                s.w = d;
+                return s;
+            }
+            Sub::Done(x) => {
+                let g = x.ch;
+                let d = Work {
+                    ch: g,
+                    passes: c.passes,
+                    mark: c.mark,
+                    last: Outcome::Same,
+                };
+                s.w = d;
+                s = settle(form, room, p, s, n, x.node, x.low, nest);
+                return s;
+            }
+        },
+    }
+}
+
+// ---- 5. `children_optimizer`
+
+fn children(form: &[u8], room: &mut [u8], p: Patterns, st: State, n: usize, nest: usize) -> State
+    requires { ⌜ Fine (now form) (now room) (st .w) p n × (nest < 65) ⌝ }
+    ensures { λ q. ⌜ Did (now (form .entry)) (now (room .entry)) (now (room .exit)) (st .w) (treeAt (now (form .entry)) (now (room .entry)) n) (children-optimizer (again nest) (treeAt (now (form .entry)) (now (room .entry)) n) (spentOf (st .w))) (q .w) ⌝ }
+{
+    let mut s = st;
+    let c = s.w;
+    if rules::is_quote_node(form, room, n) {
+        let d = rules::with(c, Outcome::Same);
+        s.w = d;
+        return s;
+    }
+    if !sexp::proper_list_node(form, room, n) {
+        let d = rules::with(c, Outcome::Same);
+        s.w = d;
+        return s;
+    }
+    s = operands(form, room, p, s, n, nest, false, false);
+    return s;
+}
+
+// ---- the choice by rule number
+
+// Rule number `rule` of a pass.
+fn choice(
+    form: &[u8],
+    room: &mut [u8],
+    p: Patterns,
+    st: State,
+    n: usize,
+    nest: usize,
+    rule: usize,
+) -> State
+    requires { ⌜ Fine (now form) (now room) (st .w) p n × (nest < 65) × (0 < rule) × (rule ≤ 8) ⌝ }
+    ensures { λ q. ⌜ Did (now (form .entry)) (now (room .entry)) (now (room .exit)) (st .w) (treeAt (now (form .entry)) (now (room .entry)) n) (optimizer (again nest) rule (treeAt (now (form .entry)) (now (room .entry)) n) (spentOf (st .w))) (q .w) ⌝ }
+{
+    let mut s = st;
+    if rule == 4 {
+        s = var_change(form, room, p, s, n, nest);
+        return s;
+    }
+    if rule == 5 {
+        s = children(form, room, p, s, n, nest);
+        return s;
+    }
+    let c = s.w;
+    let d = driver_parts::simple(form, room, p, c, n, rule);
+    s.w = d;
+    return s;
+}
+
+// ---- the driver
+
+// `optimize_sexp_` at nesting `nest`: turns over a node until no rule ends a pass; Same where none did.
+// `left` rules are left in a turn; where none is, a turn begins.
+pub fn drive(form: &[u8], room: &mut [u8], p: Patterns, st: State, n: usize, nest: usize) -> State
+    requires { ⌜ Fine (now form) (now room) (st .w) p n × (nest < 66) ⌝ }
+    ensures { λ q. ⌜ Did (now (form .entry)) (now (room .entry)) (now (room .exit)) (st .w) (treeAt (now (form .entry)) (now (room .entry)) n) (optimize-sexp (65 - nest) (treeAt (now (form .entry)) (now (room .entry)) n) (spentOf (st .w))) (q .w) ⌝ }
+{
+    let mut s = st;
+    let c = s.w;
+    if 65 <= nest {
+        let d = rules::with(c, Outcome::Stopped(Refusal::TooDeep));
+        s.w = d;
+        return s;
+    }
+    let mut r = n;
+    let mut left: usize = 0;
+    let mut moved = false;
+    loop {
+        if 0 < left {
+            s = choice(form, room, p, s, r, nest, 9 - left);
+            let e = s.w;
+            let o = e.last;
+            match o {
+                Outcome::Stopped(_) => {
+                    return s;
+                }
+                Outcome::Same => {
+                    if left <= 1 {
+                        let d = driver_parts::finish(e, r, moved);
+                        s.w = d;
+                        return s;
+                    }
+                    left -= 1;
+                }
+                Outcome::Changed(m) => {
+                    r = m;
+                    left = 0;
+                    moved = true;
+                }
+            }
+        } else {
+            let w = s.w;
+            let b = driver_parts::begin(form, room, w, r);
+            let v = b.last;
+            match v {
+                Outcome::Changed(_) => {
+                    let d = driver_parts::finish(b, r, moved);
+                    s.w = d;
+                    return s;
+                }
+                Outcome::Stopped(_) => {
+                    s.w = b;
+                    return s;
+                }
+                Outcome::Same => {
+                    s.w = b;
+                    left = 8;
+                }
+            }
+        }
+    }
+}
+
+// A state that has spent what ch says, with an empty memo.
+fn fresh(ch: Charges) -> State
+    ensures { λ r. ⌜ r .w ≡ fresh-work ch ⌝ }
+{
+    let e = Entry {
+        expr: 0,
+        result: 0,
+        passes: 0,
+        units: 0,
+        height: 0,
+    };
+    let m = [e; 256];
+    let w = Work {
+        ch: ch,
+        passes: 0,
+        mark: false,
+        last: Outcome::Same,
+    };
+    State {
+        w: w,
+        used: 0,
+        memo: m,
+    }
+}
+
+// `optimize_sexp`: the outermost call.
+pub fn optimize_node(form: &[u8], room: &mut [u8], p: Patterns, ch: Charges, n: usize) -> Work
+    requires { ⌜ Ready (now form) (now room) ch n × Patterned (now form) (now room) ch p × Narrow (treeAt (now form) (now room) n) ⌝ }
+    ensures { λ w. ⌜ Did (now (form .entry)) (now (room .entry)) (now (room .exit)) (fresh-work ch) (treeAt (now (form .entry)) (now (room .entry)) n) (optimize-sexp nesting-limit (treeAt (now (form .entry)) (now (room .entry)) n) (spentOf (fresh-work ch))) w ⌝ }
+{
+    let s = fresh(ch);
+    let r = drive(form, room, p, s, n, 1);
+    r.w
+}

@@ -1,0 +1,10 @@
+pub mod Saying
+pub mod Wraps
+pub mod Kept
+pub mod Chunk
+pub mod Parts
+pub mod Numbers
+pub mod Looping
+pub mod Settling
+pub mod Choosing
+pub mod Simply

@@ -1,0 +1,89 @@
+-- The driver at a nesting, a rule by its number, and what the driver's functions ask.
+use Prim.Native.Nat.{ℕ, _+_, _-_, _<_, _≤_}
+use mathlib.Core.Path.{_≡_}
+use mathlib.Core.List.{List}
+use mathlib.Core.Bool.{Bool, true, false}
+use lib.ListN.{getD}
+use Rattle.refusals.specs.declared.Refusal.{Refusal}
+use Rattle.meaning.specs.Tree.{Tree, atom, pair}
+use Rattle.meaning.specs.Limits.{pass-limit}
+use Rattle.meaning.specs.Meter.{W, done, stop, give, one-pass, mark-if, _>>_}
+use Rattle.meaning.specs.Driver.{optimizers, optimize-sexp}
+use Rattle.meaning.proofs.Atoms.{Narrow}
+use Rattle.store.specs.declared.Charges.{Charges}
+use Rattle.store.specs.Nodes.{treeAt}
+use Rattle.store.specs.Store.{Ready}
+use Rattle.patterns.specs.declared.Patterns.{Patterns}
+use Rattle.patterns.specs.Patterns.{Patterned}
+use Rattle.rules.specs.declared.Outcome.{Outcome}
+use Rattle.rules.specs.declared.Outcome.the-variants.{Same, Changed, Stopped}
+use Rattle.rules.specs.declared.Work.{Work}
+use Rattle.rules.specs.Work.{spentOf, with-last}
+
+-- the driver one deeper than the nesting
+abbrev pub again : ℕ → Tree → W Tree
+again nest t = optimize-sexp (65 - (nest + 1)) t
+
+-- the rule of this number: 1 to 8
+unfoldable pub optimizer : (Tree → W Tree) → ℕ → Tree → W Tree
+unfolding optimizers give
+optimizer again k = getD (optimizers again) (k - 1) give
+
+-- a rule that does not call the driver
+pub record Simple (k : ℕ) : Type 0 where
+  pub least : 0 < k
+  pub most : k ≤ 8
+  pub not-4 : k ≡ 4 → ⊥
+  pub not-5 : k ≡ 5 → ⊥
+
+-- what a function that works the node n asks: n is a node that stands for a tree of short atoms, and the passes are within their limit
+pub record Fine (f s : List ℕ) (w : Work) (p : Patterns) (n : ℕ) : Type 0 where
+  pub ready : Ready f s (w .ch) n
+  pub patterned : Patterned f s (w .ch) p
+  pub passes : w .passes ≤ pass-limit
+  pub narrow : Narrow (treeAt f s n)
+
+-- rule 4 gives back the changed body
+unfoldable pub kept : Bool → Tree → W Tree
+unfolding mark-if give _>>_
+kept low t = mark-if low >> give t
+
+unfoldable pub is-pair : Tree → Bool
+is-pair (atom b) = false
+is-pair (pair l r) = true
+
+-- a turn begins at a pair: a pass was charged
+pub record Started (f s : List ℕ) (w w′ : Work) (n : ℕ) : Type 0 where
+  pub pairs : is-pair (treeAt f s n) ≡ true
+  pub charges : w′ .ch ≡ w .ch
+  pub pays : one-pass (spentOf w) ≡ done tt (spentOf w′)
+
+-- none begins at an atom
+pub record Ends-at (f s : List ℕ) (w w′ : Work) (n m : ℕ) : Type 0 where
+  pub atoms : is-pair (treeAt f s n) ≡ false
+  pub node : m ≡ n
+  pub work : w′ ≡ with-last w (Changed n)
+
+-- the passes are spent
+pub record Passes-out (f s : List ℕ) (w : Work) (n : ℕ) (r : Refusal) : Type 0 where
+  pub pairs : is-pair (treeAt f s n) ≡ true
+  pub refusal : one-pass (spentOf w) ≡ stop r (spentOf w)
+
+unfoldable pub Begins : List ℕ → List ℕ → Work → Work → ℕ → Outcome → Type 0
+Begins f s w w′ n Same = Started f s w w′ n
+Begins f s w w′ n (Changed m) = Ends-at f s w w′ n m
+Begins f s w w′ n (Stopped r) = Passes-out f s w n r
+
+-- the start of a turn, read by its outcome
+unfoldable pub Begun : List ℕ → List ℕ → Work → ℕ → Work → Type 0
+unfolding Begins
+Begun f s w n w′ = Begins f s w w′ n (w′ .last)
+
+-- what a call that ended at r says
+unfoldable pub outcome-of : Bool → ℕ → Outcome
+outcome-of true r = Changed r
+outcome-of false r = Same
+
+-- a run's work before anything is done
+abbrev pub fresh-work : Charges → Work
+fresh-work c = record { ch = c; passes = 0; mark = false; last = Same }

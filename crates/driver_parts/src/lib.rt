@@ -1,0 +1,160 @@
+// What the driver does between its calls of itself.
+use patterns::Patterns;
+use refusals::Refusal;
+use rules::Outcome;
+use rules::Work;
+use store::Cell;
+ghost use mathlib.Core.Path.{_≡_};
+ghost use mathlib.Core.Bool.{_||_};
+ghost use Rattle.meaning.specs.Meter.{done, give};
+ghost use Rattle.meaning.specs.Rules.{non-constant};
+ghost use Rattle.meaning.proofs.Atoms.{Narrow};
+ghost use Rattle.meaning.proofs.Operands.{ending};
+ghost use Rattle.store.specs.Cells.{Room};
+ghost use Rattle.store.specs.Nodes.{treeAt};
+ghost use Rattle.store.specs.Store.{Ready};
+ghost use Rattle.sexp.specs.Lists.{Items};
+ghost use Rattle.patterns.specs.Patterns.{Patterned};
+ghost use Rattle.rules.specs.Work.{spentOf, with-last, Did};
+ghost use Rattle.driver_parts.specs.Turns.{optimizer, Simple, kept, Begun, outcome-of};
+ghost use Rattle.driver_parts.specs.Walk.{made-list, sets-flag, wrap, Walked};
+
+// ---- the walk over a list
+
+// An operand that `non_constant_count` counts: a pair headed by an atom other than the byte 1.
+fn non_constant_node<'a>(form: &'a [u8], room: &'a [u8], n: usize) -> bool
+    requires { ⌜ Room (now room) n ⌝ }
+    ensures { λ r. ⌜ r ≡ non-constant (treeAt (now (form .entry)) (now (room .entry)) n) ⌝ }
+{
+    match store::look_node(room, n) {
+        Cell::Pair(o, _) => match store::look_node(room, o) {
+            Cell::Atom => !sexp::is_byte_node(form, room, o, 1),
+            Cell::Pair(_, _) => false,
+        },
+        Cell::Atom => false,
+    }
+}
+
+// The flag after an element that was worked into n, and moved or not: rule 4 (count) asks what it became, rule 5 whether it differs.
+pub fn flag_after<'a>(
+    form: &'a [u8],
+    room: &'a [u8],
+    n: usize,
+    count: bool,
+    moved: bool,
+    flag: bool,
+) -> bool
+    requires { ⌜ Room (now room) n ⌝ }
+    ensures { λ r. ⌜ r ≡ (flag || sets-flag count moved (treeAt (now (form .entry)) (now (room .entry)) n)) ⌝ }
+{
+    if flag {
+        return true;
+    }
+    if count {
+        non_constant_node(form, room, n)
+    } else {
+        moved
+    }
+}
+
+// Is the list made anew? Rule 4 makes it where no operand was counted, rule 5 where an element differs.
+pub fn is_made(count: bool, flag: bool) -> bool
+    ensures { λ r. ⌜ r ≡ made-list count flag ⌝ }
+{
+    if count { !flag } else { flag }
+}
+
+// The list of the first k of got before tail, where it is made.
+pub fn build(
+    form: &[u8],
+    room: &mut [u8],
+    w: Work,
+    got: [u16; 64],
+    k: usize,
+    tail: usize,
+    make: bool,
+) -> Work
+    requires { ⌜ Ready (now form) (now room) (w .ch) tail × Items (now room) (w .ch) got k ⌝ }
+    ensures { λ r. ⌜ Walked (now (form .entry)) (now (room .entry)) (now (room .exit)) w (wrap (now (form .entry)) (now (room .entry)) got k (done (ending make (treeAt (now (form .entry)) (now (room .entry)) tail)) (spentOf w))) r ⌝ }
+{
+    if !make {
+        return rules::with(w, Outcome::Same);
+    }
+    let ch = w.ch;
+    let m = sexp::enlist_node(form, room, ch, &got, k, tail);
+    rules::put(w, m)
+}
+
+// ---- rule 4
+
+// The changed body m of r is given back: the mark goes by that, even where m equals r.
+pub fn keep(form: &[u8], room: &mut [u8], w: Work, r: usize, m: usize, low: bool) -> Work
+    requires { ⌜ Ready (now form) (now room) (w .ch) r × Ready (now form) (now room) (w .ch) m ⌝ }
+    ensures { λ a. ⌜ Did (now (form .entry)) (now (room .entry)) (now (room .exit)) w (treeAt (now (form .entry)) (now (room .entry)) r) (kept low (treeAt (now (form .entry)) (now (room .entry)) m) (spentOf w)) a ⌝ }
+{
+    let ch = w.ch;
+    let k = rules::marked(w, low);
+    if sexp::equal_node(form, room, ch, r, m) {
+        return rules::with(k, Outcome::Same);
+    }
+    rules::with(k, Outcome::Changed(m))
+}
+
+// ---- the rules that do not call the driver
+
+// Rules 1 to 3 and 6 to 8, by number.
+pub fn simple(form: &[u8], room: &mut [u8], p: Patterns, w: Work, n: usize, rule: usize) -> Work
+    requires { ⌜ Ready (now form) (now room) (w .ch) n × Patterned (now form) (now room) (w .ch) p × Narrow (treeAt (now form) (now room) n) × Simple rule ⌝ }
+    ensures { λ q. ⌜ Did (now (form .entry)) (now (room .entry)) (now (room .exit)) w (treeAt (now (form .entry)) (now (room .entry)) n) (optimizer give rule (treeAt (now (form .entry)) (now (room .entry)) n) (spentOf w)) q ⌝ }
+{
+    if rule == 1 {
+        return rules::cons_optimizer(form, room, p, w, n);
+    }
+    if rule == 2 {
+        return rules::constant_optimizer(form, room, w, n);
+    }
+    if rule == 3 {
+        return rules::cons_q_a_optimizer(form, room, p, w, n);
+    }
+    if rule == 6 {
+        return rules::path_optimizer(form, room, p, w, n);
+    }
+    if rule == 7 {
+        return rules::quote_null_optimizer(form, room, p, w, n);
+    }
+    rules::apply_null_optimizer(form, room, p, w, n)
+}
+
+// ---- a turn
+
+// The start of a turn: Changed where n is an atom (nothing is left to do), Same where a pass was charged.
+pub fn begin<'a>(form: &'a [u8], room: &'a [u8], w: Work, n: usize) -> Work
+    requires { ⌜ Ready (now form) (now room) (w .ch) n ⌝ }
+    ensures { λ q. ⌜ Begun (now (form .entry)) (now (room .entry)) w n q ⌝ }
+{
+    match store::look_node(room, n) {
+        Cell::Atom => rules::with(w, Outcome::Changed(n)),
+        Cell::Pair(_, _) => {
+            if 65536 <= w.passes {
+                return rules::with(w, Outcome::Stopped(Refusal::PassesOut));
+            }
+            let c = w.ch;
+            Work {
+                ch: c,
+                passes: w.passes + 1,
+                mark: w.mark,
+                last: Outcome::Same,
+            }
+        }
+    }
+}
+
+// A call's end at r: Changed where a rule ended a pass, else Same.
+pub fn finish(w: Work, r: usize, moved: bool) -> Work
+    ensures { λ q. ⌜ q ≡ with-last w (outcome-of moved r) ⌝ }
+{
+    if moved {
+        return rules::with(w, Outcome::Changed(r));
+    }
+    rules::with(w, Outcome::Same)
+}
