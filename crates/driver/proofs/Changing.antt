@@ -44,7 +44,7 @@ applied-narrow x y z e h =
     let b = narrow-parts _ _ (a .1) in
     (narrow-parts _ _ (b .0) .1, narrow-parts _ _ (b .1) .0)
 
-module _ {f : List ℕ} {p : Patterns} {room : List ℕ} {w : Work} {n : ℕ} (h : Fine f room w p n) {r₀ : List ℕ} {a : Applied} (ok : AppliedOk f room r₀ (w .ch) a (applied-of (treeAt f room n))) where
+module _ (f : List ℕ) (p : Patterns) (room : List ℕ) (w : Work) (n : ℕ) (h : Fine f room w p n) (r₀ : List ℕ) (a : Applied) (ok : AppliedOk f room r₀ (w .ch) a (applied-of (treeAt f room n))) where
   abbrev x : Tree
   x = treeAt f room n
 

@@ -137,7 +137,7 @@ chunk-starts f p nest list count flag room w got h n l = record {
   rest = refl;
 }
 
-module _ {f : List ℕ} {p : Patterns} {nest list : ℕ} {count flag : Bool} {room₀ : List ℕ} {w₀ : Work} {room : List ℕ} {w : Work} {q : ℕ} {seen : Bool} {got : List ℕ} {k : ℕ}
+module _ (f : List ℕ) (p : Patterns) (nest list : ℕ) (count flag : Bool) (room₀ : List ℕ) (w₀ : Work) (room : List ℕ) (w : Work) (q : ℕ) (seen : Bool) (got : List ℕ) (k : ℕ)
     (i : Chunk f p nest list count flag room₀ w₀ room w q seen got k) where
   abbrev total : Out Spent (Option Tree)
   total = walk count (again nest) flag (treeAt f room₀ list) (spentOf w₀)

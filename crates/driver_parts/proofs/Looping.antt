@@ -171,7 +171,7 @@ loop-starts f p nest room w n h l = record {
   within = λ o. absurd (omega arith);
 }
 
-module _ {f : List ℕ} {p : Patterns} {nest : ℕ} {room₀ : List ℕ} {w₀ : Work} {n : ℕ} {room : List ℕ} {w : Work} {r left : ℕ} {moved : Bool} (i : Looping f p nest room₀ w₀ n room w r left moved) where
+module _ (f : List ℕ) (p : Patterns) (nest : ℕ) (room₀ : List ℕ) (w₀ : Work) (n : ℕ) (room : List ℕ) (w : Work) (r left : ℕ) (moved : Bool) (i : Looping f p nest room₀ w₀ n room w r left moved) where
   abbrev total : Out Spent Tree
   total = optimize-sexp (65 - nest) (treeAt f room₀ n) (spentOf w₀)
 

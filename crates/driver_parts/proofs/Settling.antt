@@ -39,8 +39,8 @@ pub not-no : (b : Bool) → not b ≡ false → b ≡ true
 not-no true h = refl
 not-no false h = not-true h
 
-module _ {f : List ℕ} {p : Patterns} {room : List ℕ} {w : Work} {r new : ℕ} (h : Fine f room w p r) (hn : Fine f room w p new)
-    {r₁ : List ℕ} {b : Bool} (a : Answered f room r₁ (w .ch) b (seems-constant (treeAt f room new))) where
+module _ (f : List ℕ) (p : Patterns) (room : List ℕ) (w : Work) (r new : ℕ) (h : Fine f room w p r) (hn : Fine f room w p new)
+    (r₁ : List ℕ) (b : Bool) (a : Answered f room r₁ (w .ch) b (seems-constant (treeAt f room new))) where
   abbrev x : Tree
   x = treeAt f room r
 

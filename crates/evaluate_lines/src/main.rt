@@ -65,9 +65,9 @@ fn turn(
 fn run(buf: &mut [u8], forms: &mut [u8], room: &mut [u8], out: &mut [u8], text: &mut [u8]) {
     let mut s = lines::start();
     let mut turns = u64::MAX;
-    while turns > 0 && lines::more(s) {
+    while 0 < turns {
         s = turn(buf, forms, room, out, text, s);
-        turns -= 1;
+        turns = lines::left(s, turns);
     }
 }
 

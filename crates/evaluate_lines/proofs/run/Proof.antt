@@ -1,9 +1,9 @@
 -- run: an answer for each need; what carries weight stands in the laws.
+use mathlib.Core.Path.{_≡_}
+use lib.ListN.{length}
+use borrow.Author.Needs.{needs}
 use Rattle.evaluate_lines.proofs.run.Statement.{statement}
 use Rattle.evaluate_lines.proofs.run.Tie as tie
-use borrow.Author.Needs.{needs}
-use lib.ListN.{length}
-use mathlib.Core.Path.{_≡_}
 
 abbrev Inv-loop : tie.InvT-loop
 Inv-loop buf₀ forms₀ room₀ out₀ text₀ s₀ turns₀ buf forms room out text s turns = (length buf ≡ length buf₀) × ((length forms ≡ length forms₀) × ((length room ≡ length room₀) × ((length out ≡ length out₀) × (length text ≡ length text₀))))
@@ -19,9 +19,8 @@ run-spec =
     μ-loop
     (λ c κs. search needs)  -- start-requires
     (λ c. search needs)  -- loop-holds
-    (λ c κs. search needs)  -- more-requires
     (λ c κs. search needs)  -- turn-requires
-    (λ c. search needs)  -- sub-turns
+    (λ c κs. search needs)  -- left-requires
     (λ c. search needs)  -- loop-less
     (λ c. search needs)  -- loop-again
     (λ c. search needs)  -- same-length
@@ -29,10 +28,4 @@ run-spec =
     (λ c. search needs)  -- same-length-3
     (λ c. search needs)  -- same-length-4
     (λ c. search needs)  -- same-length-5
-    (λ c. search needs)  -- returns
-    (λ c. search needs)  -- same-length-6
-    (λ c. search needs)  -- same-length-7
-    (λ c. search needs)  -- same-length-8
-    (λ c. search needs)  -- same-length-9
-    (λ c. search needs)  -- same-length-10
-    (λ c. search needs))  -- returns-2
+    (λ c. search needs))  -- returns

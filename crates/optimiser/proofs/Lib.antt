@@ -1,0 +1,6 @@
+pub mod Refusals
+pub mod Working
+pub mod Bytes
+pub mod OnlyOne
+pub mod Answers
+pub mod Demands

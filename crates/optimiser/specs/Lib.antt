@@ -1,0 +1,2 @@
+pub mod Optimised
+pub mod Worked

@@ -1,0 +1,107 @@
+// The optimiser on byte slices: a form is read, worked to its end and written.
+use form::Extent;
+use patterns::Patterns;
+use refusals::Refusal;
+use rules::Outcome;
+use rules::Work;
+use store::Charges;
+use store::Made;
+ghost use mathlib.Core.Path.{_≡_};
+ghost use Prim.Native.Nat.{_≤_};
+ghost use lib.ListN.{length};
+ghost use Rattle.meaning.specs.Limits.{room-least};
+ghost use Rattle.meaning.specs.Run.{worked, deliver};
+ghost use Rattle.optimiser.specs.Optimised.{Optimised};
+ghost use Rattle.optimiser.specs.Worked.{Fresh, finish-at, WorkedOk, Delivered};
+
+// What an answer reports: how many bytes were written, and what the run took.
+pub struct Report {
+    pub length: usize,
+    pub passes: usize,
+    pub units: usize,
+    pub mark: bool,
+}
+
+pub enum Answer {
+    Answered(Report),
+    Refused(Refusal),
+}
+
+// The finished tree's node and what the run took, or a refusal.
+pub(crate) enum Finished {
+    Node(usize, Work),
+    Refused(Refusal),
+}
+
+const ROOM: usize = 65536;
+
+// What the driver says of the node n.
+fn finish(w: Work, n: usize) -> Finished
+    ensures { λ r. ⌜ r ≡ finish-at n w (w .last) ⌝ }
+{
+    let o = w.last;
+    match o {
+        Outcome::Same => Finished::Node(n, w),
+        Outcome::Changed(m) => Finished::Node(m, w),
+        Outcome::Stopped(e) => Finished::Refused(e),
+    }
+}
+
+// Reads the form and works its tree.
+fn read_and_work(form: &[u8], room: &mut [u8], p: Patterns, ch: Charges) -> Finished
+    requires { ⌜ Fresh (now form) (now room) ch p ⌝ }
+    ensures { λ r. ⌜ WorkedOk (now (form .entry)) (now (room .exit)) r ⌝ }
+{
+    match form::read_form(form, room, 0, form.len(), ch) {
+        Made::Refused(e) => Finished::Refused(e),
+        Made::Node(n, c) => finish(driver::optimize_node(form, room, p, c, n), n),
+    }
+}
+
+// All of a run's work, whatever the room held. The patterns are laid first, below the form's nodes and free of units.
+fn worked(form: &[u8], room: &mut [u8]) -> Finished
+    requires { ⌜ room-least ≤ length (now room) ⌝ }
+    ensures { λ r. ⌜ WorkedOk (now (form .entry)) (now (room .exit)) r ⌝ }
+{
+    let ch = store::start(form, room);
+    let a = patterns::lay_patterns(form, room, ch);
+    let p = a.patterns;
+    let c = a.ch;
+    read_and_work(form, room, p, c)
+}
+
+// Writes the finished tree where it fits: measured first, so that refusal 14 leaves the output as it came in.
+fn deliver<'a>(form: &'a [u8], room: &'a [u8], x: Finished, out: &mut [u8]) -> Answer
+    requires { ⌜ WorkedOk (now form) (now room) x ⌝ }
+    ensures { λ r. ⌜ Delivered (deliver (length (now (out .entry))) (worked (now (form .entry)))) (now (out .entry)) (now (out .exit)) r ⌝ }
+{
+    match x {
+        Finished::Refused(e) => Answer::Refused(e),
+        Finished::Node(n, w) => match form::length_node(form, room, n, out.len()) {
+            Extent::Over => Answer::Refused(Refusal::OutputShort),
+            Extent::Long(_) => {
+                let k = form::write_node(form, room, n, out);
+                let c = w.ch;
+                Answer::Answered(Report {
+                    length: k,
+                    passes: w.passes,
+                    units: c.units,
+                    mark: w.mark,
+                })
+            }
+        },
+    }
+}
+
+// The form's tree, optimised and written to the front of out. The room is all zero after, but for refusal 1.
+pub fn optimise(form: &[u8], room: &mut [u8], out: &mut [u8]) -> Answer
+    ensures { λ r. ⌜ Optimised (now (form .entry)) (now (room .entry)) (now (out .entry)) r (now (room .exit)) (now (out .exit)) ⌝ }
+{
+    if room.len() < ROOM {
+        return Answer::Refused(Refusal::RoomSmall);
+    }
+    let x = worked(form, room);
+    let a = deliver(form, room, x, out);
+    store::zero_room(room);
+    a
+}
