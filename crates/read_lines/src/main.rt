@@ -28,7 +28,14 @@ fn answer(form: &[u8], room: &mut [u8], out: &mut [u8], text: &mut [u8], at: usi
 }
 
 // Answers the next line.
-fn turn(buf: &mut [u8], form: &mut [u8], room: &mut [u8], out: &mut [u8], text: &mut [u8], s: Lines) -> Lines {
+fn turn(
+    buf: &mut [u8],
+    form: &mut [u8],
+    room: &mut [u8],
+    out: &mut [u8],
+    text: &mut [u8],
+    s: Lines,
+) -> Lines {
     let mut r = lines::next_line(buf, form, text, s);
     let n = r.n;
     let at = r.put;
