@@ -5,6 +5,7 @@ mod bytes;
 mod code;
 mod constants;
 mod damaged;
+mod deep;
 mod kept;
 mod large;
 mod limits;
@@ -43,6 +44,7 @@ fn print(options: &Options, sink: &mut Sink) -> bool {
         "code" => code::print(options, sink),
         "kept" => kept::print(options, sink),
         "damaged" => damaged::print(options, sink),
+        "deep" => deep::print(sink),
         "limits" => limits::print(sink),
         "repeats" => repeats::print(sink),
         "wide" => wide::print(sink),

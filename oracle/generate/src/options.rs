@@ -6,7 +6,7 @@ families: bytes (--max: bytes in a form, to 3)
           small (--leaves: 1 to 4; --atoms: which, nil being an empty word)
           code, kept, damaged, large, pairs-match, pairs-eval (--seed, --count)
           shared (--seed, --count: random ones after the fixed ones)
-          limits, repeats, wide
+          limits, repeats, wide, deep
 --names puts a name before each form";
 
 pub struct Options {
