@@ -12,7 +12,7 @@ use Rattle.refusals.specs.declared.Refusal.{Refusal}
 use Rattle.refusals.specs.declared.Refusal.the-variants.{FormLong}
 use Rattle.meaning.specs.Tree.{Tree}
 use Rattle.meaning.specs.Limits.{form-limit}
-use Rattle.meaning.specs.Meter.{Out, done, stop}
+use Rattle.meaning.specs.Meter.{done, stop}
 use Rattle.meaning.specs.Form.{Reading, limits, read-whole, read-form}
 use Rattle.meaning.specs.Match as meaning
 use Rattle.store.specs.declared.Charges.{Charges}
@@ -26,11 +26,10 @@ use Rattle.form.specs.Spans.{span, left-from, Stops, stops}
 use Rattle.form.specs.Reads.{ReadTo, FormOk}
 use Rattle.form.proofs.Spans.{same-stops}
 use Rattle.pattern.specs.declared.Match.{Match}
-use Rattle.pattern.specs.Bound.{matchAt, MatchOk}
-use Rattle.matcher.specs.declared.Worked.{Worked}
+use Rattle.pattern.specs.Bound.{MatchOk}
 use Rattle.matcher.specs.declared.Worked.the-variants.{Went, Stop}
 use Rattle.matcher.specs.Outcome.{worked}
-use Rattle.matcher.specs.Steps.{Splits, Gives, gives, WentTo, WorkOk}
+use Rattle.matcher.specs.Steps.{Splits, gives, WorkOk}
 
 -- ---- where the first form ends
 

@@ -1,6 +1,6 @@
 -- One outcome only meets the promise: the answer, and every byte of the output and of the room. Assumes nothing.
 use mathlib.Core.Path.{_≡_, refl, sym, _∙_, ap}
-use mathlib.Core.List.{List, [], _∷_}
+use mathlib.Core.List.{List}
 use Prim.Native.Nat.{ℕ}
 use native.Mathlib.Omega.{arith}
 use lib.ListN.{length}
@@ -9,7 +9,7 @@ use Rattle.form.proofs.OnlyOne.{number-only}
 use Rattle.matcher.specs.declared.Parts.{Parts}
 use Rattle.matcher.specs.declared.MatchAnswer.{MatchAnswer}
 use Rattle.matcher.specs.declared.MatchAnswer.the-variants.{Matched, NoMatch, TooManyNames, Refused}
-use Rattle.matcher.specs.Outcome.{values, says, outcome, Matches}
+use Rattle.matcher.specs.Outcome.{says, outcome, Matches}
 
 same-parts : {n n′ a a′ b b′ c c′ d d′ : ℕ} → n ≡ n′ → a ≡ a′ → b ≡ b′ → c ≡ c′ → d ≡ d′
     → _≡_ {A = Parts} (record { count = n; name_1 = a; node_1 = b; name_2 = c; node_2 = d }) (record { count = n′; name_1 = a′; node_1 = b′; name_2 = c′; node_2 = d′ })

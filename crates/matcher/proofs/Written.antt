@@ -1,15 +1,14 @@
 -- The parts: where they end, and writing them. What each call and each return needs.
-use mathlib.Core.Path.{_≡_, refl, sym, _∙_, ap, ap₂}
+use mathlib.Core.Path.{_≡_, refl, sym, _∙_}
 use mathlib.Core.List.{List, [], _∷_, _++_, append-assoc, append-nil}
 use mathlib.Core.Bool.{Bool, true, false}
 use Prim.Native.Nat.{ℕ, _+_, _-_, _^_, _<_, _≤_}
 use native.Mathlib.Omega.{arith}
-use lib.ListN.{length, take, drop, length-append}
+use lib.ListN.{length, take, length-append}
 use lib.Dec.{leb}
 use mir.Syntax.{w64}
 use mir.Val.{Fits}
 use borrow.Author.Tests.{le-leb, lt-leb, leb-true, leb-false}
-use Rattle.meaning.specs.Tree.{Tree, atom}
 use Rattle.meaning.specs.Form.{write}
 use Rattle.meaning.specs.Match as meaning
 use Rattle.store.specs.declared.Charges.{Charges}
@@ -26,7 +25,6 @@ use Rattle.pattern.specs.Bound.{bindingAt, bindingsAt, Bound}
 use Rattle.pattern.proofs.Kept.{name-tree}
 use Rattle.matcher.specs.declared.Ends.{Ends}
 use Rattle.matcher.specs.declared.Ends.the-variants.{At, Over as ends-over}
-use Rattle.matcher.specs.declared.Placed.{Placed}
 use Rattle.matcher.specs.declared.Placed.the-variants.{All, Over}
 use Rattle.matcher.specs.Outcome.{parts, joined, end}
 use Rattle.matcher.specs.Steps.{ends, placed}

@@ -16,7 +16,6 @@ use Rattle.matcher.specs.declared.Worked.{Worked}
 use Rattle.matcher.specs.declared.Worked.the-variants.{Went, Stop}
 use Rattle.matcher.specs.declared.Ends.{Ends}
 use Rattle.matcher.specs.declared.Ends.the-variants.{At, Over as ends-over}
-use Rattle.matcher.specs.declared.Parts.{Parts}
 use Rattle.matcher.specs.declared.Placed.{Placed}
 use Rattle.matcher.specs.declared.Placed.the-variants.{All, Over}
 use Rattle.matcher.specs.Outcome.{parts, joined, end}

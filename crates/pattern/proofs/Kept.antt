@@ -1,30 +1,27 @@
 -- Bindings: what a growing store keeps of them, and what get and insert answer.
-use mathlib.Core.Path.{_≡_, refl, sym, _∙_, ap, ap₂}
+use mathlib.Core.Path.{_≡_, refl, sym, _∙_}
 use mathlib.Core.List.{List, [], _∷_}
 use mathlib.Core.Bool.{Bool, true, false}
-use mathlib.Core.Option.{Option, none, some}
-use Prim.Native.Nat.{ℕ, zero, suc, _≤_, _<_}
+use mathlib.Core.Option.{none, some}
+use Prim.Native.Nat.{ℕ, zero, suc, _≤_}
 use native.Mathlib.Omega.{arith}
 use lib.ListN.{take}
-use lib.Dec.{eqb}
-use borrow.Author.Tests.{eq-eqb, ne-eqb, eqb-true}
-use Rattle.meaning.specs.Tree.{Tree, atom, pair, same-bytes}
+use borrow.Author.Tests.{eq-eqb, ne-eqb}
+use Rattle.meaning.specs.Tree.{atom, same-bytes}
 use Rattle.meaning.specs.Match as meaning
 use Rattle.store.specs.declared.Cell.{Cell}
 use Rattle.store.specs.declared.Cell.the-variants.{Pair, Atom}
 use Rattle.store.specs.declared.Charges.{Charges}
-use Rattle.store.specs.Cells.{cellAt, bytesAt, Room, pick}
+use Rattle.store.specs.Cells.{cellAt, bytesAt, Room}
 use Rattle.store.specs.Nodes.{treeAt}
 use Rattle.store.specs.Store.{Held, Ready}
 use Rattle.store.specs.Makers.{Grown}
 use Rattle.store.proofs.Ready as ready
 use Rattle.store.proofs.Trees.{cell-below, tree-pair, tree-atom}
 use Rattle.pattern.specs.declared.Bindings.{Bindings}
-use Rattle.pattern.specs.declared.Match.{Match}
-use Rattle.pattern.specs.declared.Match.the-variants.{Matched, NoMatch, TooManyNames}
-use Rattle.pattern.specs.declared.Got.{Got}
+use Rattle.pattern.specs.declared.Match.the-variants.{Matched, TooManyNames}
 use Rattle.pattern.specs.declared.Got.the-variants.{At, Nothing}
-use Rattle.pattern.specs.Bound.{bindingAt, bindingsAt, Named, Bound, noBindings, inserted, matchAt, BoundIn, MatchOk, gotAt, GotIn, GotOk}
+use Rattle.pattern.specs.Bound.{bindingAt, bindingsAt, Named, Bound, noBindings, inserted, matchAt, BoundIn, gotAt, GotIn, GotOk}
 
 -- ---- names
 

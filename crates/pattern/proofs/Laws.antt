@@ -1,9 +1,9 @@
 -- What each call and each return of the matcher's functions needs. The premises stand in the order: latest call, tests, cells, nodes.
-use mathlib.Core.Path.{_≡_, refl, sym, _∙_, ap, ap₂}
-use mathlib.Core.List.{List, [], _∷_}
+use mathlib.Core.Path.{_≡_, refl, sym, _∙_, ap}
+use mathlib.Core.List.{List, []}
 use mathlib.Core.Bool.{Bool, true, false, _&&_, not}
 use mathlib.Core.Option.{Option, none, some}
-use Prim.Native.Nat.{ℕ, _≤_, _<_}
+use Prim.Native.Nat.{ℕ, _<_}
 use native.Mathlib.Omega.{arith}
 use Rattle.meaning.specs.Tree.{Tree, atom, pair, same-bytes, equal-to}
 use Rattle.meaning.specs.Match as meaning
@@ -13,7 +13,7 @@ use Rattle.store.specs.declared.Charges.{Charges}
 use Rattle.store.specs.Cells.{cellAt, bytesAt, Room}
 use Rattle.store.specs.Nodes.{treeAt}
 use Rattle.store.specs.Store.{Held, Ready}
-use Rattle.store.specs.Makers.{Grown, Answered}
+use Rattle.store.specs.Makers.{Answered}
 use Rattle.store.proofs.Ready as ready
 use Rattle.store.proofs.Trees.{tree-pair}
 use Rattle.sexp.specs.Tests.{is-byte-tree}

@@ -1,5 +1,5 @@
 -- The cases of match_sexp at a pattern that is a pair.
-use mathlib.Core.Bool.{Bool, true, false, _&&_, not}
+use mathlib.Core.Bool.{Bool, false, _&&_, not}
 use Rattle.meaning.specs.Tree.{Tree, atom, pair, is-byte}
 use Rattle.meaning.specs.Match.{sexp-match}
 

@@ -4,7 +4,6 @@ use store::Charges;
 ghost use mathlib.Core.Path.{_≡_};
 ghost use mathlib.Core.Bool.{_&&_};
 ghost use mathlib.Core.List.{[]};
-ghost use Prim.Native.Nat.{ℕ, _≤_, _<_};
 ghost use Rattle.meaning.specs.Match as meaning;
 ghost use Rattle.meaning.specs.Tree.{pair, same-bytes};
 ghost use Rattle.sexp.specs.Tests.{is-byte-tree};

@@ -5,7 +5,7 @@ use mathlib.Core.Bool.{Bool, true, false, _&&_}
 use Prim.Native.Nat.{ℕ, _<_, _≤_}
 use native.Mathlib.Omega.{arith}
 use lib.Dec.{eqb}
-use Rattle.meaning.specs.Tree.{Tree, atom, pair, is-byte, is-empty}
+use Rattle.meaning.specs.Tree.{Tree, atom, pair}
 use Rattle.meaning.specs.Constant.{seems-constant, seems-constant-tail}
 use Rattle.store.specs.declared.Cell.{Cell}
 use Rattle.store.specs.declared.Cell.the-variants.{Pair, Atom}
@@ -13,7 +13,7 @@ use Rattle.store.specs.declared.Charges.{Charges}
 use Rattle.store.specs.Cells.{cellAt, bytesAt, Room}
 use Rattle.store.specs.Nodes.{treeAt}
 use Rattle.store.specs.Store.{Ready, notedAt, notedTailAt}
-use Rattle.store.specs.Makers.{Grown, Answered}
+use Rattle.store.specs.Makers.{Answered}
 use Rattle.store.proofs.Ready as ready
 use Rattle.sexp.specs.Tests.{is-byte-tree, is-nil}
 

@@ -1,7 +1,6 @@
 // optimize.rs, `seems_constant` and `seems_constant_tail`. What was found at a pair is remembered in its kind byte.
 use store::Cell;
 use store::Charges;
-ghost use mathlib.Core.Path.{_≡_};
 ghost use Rattle.meaning.specs.Constant.{seems-constant, seems-constant-tail};
 ghost use Rattle.store.specs.Nodes.{treeAt};
 ghost use Rattle.store.specs.Store.{Ready};

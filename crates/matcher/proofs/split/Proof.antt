@@ -1,5 +1,4 @@
 -- split: by the length.
-use borrow.Author.Needs.{needs}
 use Rattle.matcher.proofs.Forms as laws
 use Rattle.matcher.proofs.split.Statement.{statement}
 use Rattle.matcher.proofs.split.Tie as tie

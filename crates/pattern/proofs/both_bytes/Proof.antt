@@ -1,6 +1,5 @@
 -- both_bytes: one test, then the other.
 use borrow.Author.Needs.{needs}
-use Rattle.pattern.proofs.Kept as kept
 use Rattle.pattern.proofs.Laws as laws
 use Rattle.pattern.proofs.both_bytes.Statement.{statement}
 use Rattle.pattern.proofs.both_bytes.Tie as tie

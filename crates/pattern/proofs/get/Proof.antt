@@ -1,7 +1,5 @@
 -- get: the first name, then the second.
-use borrow.Author.Needs.{needs}
 use Rattle.pattern.proofs.Kept as kept
-use Rattle.pattern.proofs.Laws as laws
 use Rattle.pattern.proofs.get.Statement.{statement}
 use Rattle.pattern.proofs.get.Tie as tie
 

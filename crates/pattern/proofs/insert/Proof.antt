@@ -1,7 +1,5 @@
 -- insert: by the count.
-use borrow.Author.Needs.{needs}
 use Rattle.pattern.proofs.Kept as kept
-use Rattle.pattern.proofs.Laws as laws
 use Rattle.pattern.proofs.insert.Statement.{statement}
 use Rattle.pattern.proofs.insert.Tie as tie
 

@@ -1,6 +1,5 @@
 -- same_name: the atom's bytes are compared.
 use borrow.Author.Needs.{needs}
-use Rattle.pattern.proofs.Kept as kept
 use Rattle.pattern.proofs.Laws as laws
 use Rattle.pattern.proofs.same_name.Statement.{statement}
 use Rattle.pattern.proofs.same_name.Tie as tie

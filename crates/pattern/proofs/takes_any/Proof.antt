@@ -1,6 +1,5 @@
 -- takes_any: the head, then the cell of what follows it.
 use borrow.Author.Needs.{needs}
-use Rattle.pattern.proofs.Kept as kept
 use Rattle.pattern.proofs.Laws as laws
 use Rattle.pattern.proofs.takes_any.Statement.{statement}
 use Rattle.pattern.proofs.takes_any.Tie as tie
