@@ -20,6 +20,7 @@ ghost use Rattle.patterns.specs.Patterns.{Patterned};
 ghost use Rattle.rules.specs.Work.{spentOf, Did};
 ghost use Rattle.driver_parts.specs.Turns.{again, optimizer, Fine, fresh-work};
 ghost use Rattle.driver_parts.specs.Walk.{walk, Walked};
+ghost use Rattle.driver.specs.Alone.{one-rule};
 
 // A finished expression: 12 bytes.
 pub struct Entry {
@@ -375,4 +376,31 @@ pub fn optimize_node(form: &[u8], room: &mut [u8], p: Patterns, ch: Charges, n: 
     let s = fresh(ch);
     let r = drive(form, room, p, s, n, 1);
     r.w
+}
+
+// One rule alone, by its number, at nesting 1 in a first pass.
+pub fn apply_node(
+    form: &[u8],
+    room: &mut [u8],
+    p: Patterns,
+    ch: Charges,
+    n: usize,
+    rule: usize,
+) -> Work
+    requires { ⌜ Ready (now form) (now room) ch n × Patterned (now form) (now room) ch p × Narrow (treeAt (now form) (now room) n) × (0 < rule) × (rule ≤ 8) ⌝ }
+    ensures { λ w. ⌜ Did (now (form .entry)) (now (room .entry)) (now (room .exit)) (fresh-work ch) (treeAt (now (form .entry)) (now (room .entry)) n) (one-rule rule (treeAt (now (form .entry)) (now (room .entry)) n) (spentOf (fresh-work ch))) w ⌝ }
+{
+    let mut s = fresh(ch);
+    let w = s.w;
+    let b = driver_parts::begin(form, room, w, n);
+    let o = b.last;
+    match o {
+        Outcome::Changed(_) => rules::with(b, Outcome::Same),
+        Outcome::Stopped(_) => b,
+        Outcome::Same => {
+            s.w = b;
+            let r = choice(form, room, p, s, n, 1, rule);
+            r.w
+        }
+    }
 }

@@ -20,6 +20,12 @@ pub fn form(random: &mut Random) -> Tree {
     Code { random, inside: false }.expression(depth)
 }
 
+/// A part of a form.
+pub fn small(random: &mut Random) -> Tree {
+    let depth = random.between(1, 3);
+    Code { random, inside: false }.expression(depth)
+}
+
 struct Code<'a> {
     random: &'a mut Random,
     /// Inside a quoted program, where a long path would only end in the nesting limit.

@@ -14,6 +14,7 @@ mod pairs_eval;
 mod pairs_match;
 mod random;
 mod repeats;
+mod rules;
 mod shared;
 mod sink;
 mod small;
@@ -50,6 +51,14 @@ fn print(options: &Options, sink: &mut Sink) -> bool {
         "wide" => wide::print(sink),
         "large" => large::print(options, sink),
         "shared" => shared::print(options, sink),
+        "rule-1" => rules::print(1, options, sink),
+        "rule-2" => rules::print(2, options, sink),
+        "rule-3" => rules::print(3, options, sink),
+        "rule-4" => rules::print(4, options, sink),
+        "rule-5" => rules::print(5, options, sink),
+        "rule-6" => rules::print(6, options, sink),
+        "rule-7" => rules::print(7, options, sink),
+        "rule-8" => rules::print(8, options, sink),
         "pairs-match" => pairs_match::print(options, sink),
         "pairs-eval" => pairs_eval::print(options, sink),
         _ => return false,

@@ -4,7 +4,7 @@ pub const USAGE: &str = "\
 usage: generate FAMILY [--seed N] [--count N] [--max N] [--leaves N] [--atoms HEX,HEX,..] [--names]
 families: bytes (--max: bytes in a form, to 3)
           small (--leaves: 1 to 4; --atoms: which, nil being an empty word)
-          code, kept, damaged, large, pairs-match, pairs-eval (--seed, --count)
+          code, kept, damaged, large, rule-1 to rule-8, pairs-match, pairs-eval (--seed, --count)
           shared (--seed, --count: random ones after the fixed ones)
           limits, repeats, wide, deep
 --names puts a name before each form";

@@ -1,0 +1,15 @@
+-- print_same: an answer for each need; what carries weight stands in the laws.
+use borrow.Author.Needs.{needs}
+use Rattle.rule_lines.proofs.Telling as telling
+use Rattle.rule_lines.proofs.print_same.Statement.{statement}
+use Rattle.rule_lines.proofs.print_same.Tie as tie
+
+pub print-same-spec : {M : Type 1} → statement M
+print-same-spec =
+    tie.close
+    (tie.spec
+    (λ c. search needs)  -- slice-aggregate-print-word
+    (λ c κs. search needs)  -- print-word-requires
+    (λ c κs. search needs)  -- print-spent-requires
+    (λ c. search needs)  -- same-length
+    (λ c. search telling.same-printed))  -- returns
