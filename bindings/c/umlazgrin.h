@@ -1,0 +1,92 @@
+/* Umlazgrin as a C library: the classic Chialisp optimiser (stage 2), an evaluator, a matcher, a reader and a writer of the
+ * serialised form, on bytes that the caller lends. Link libumlazgrin.a; of C's library it needs memcpy and memset only.
+ *
+ * Each function returns 0 for an answer, or the number of a refusal (1 to 14; the matcher also 15 and 16). What it leaves behind
+ * is proved of it, for all inputs:
+ *   - an answer fills in *report and writes the first bytes of out, as many as the report says, and none after them;
+ *   - any other return leaves out and *report as they came in;
+ *   - room is all zero after every return but refusal 1, which leaves it as it came in. What it holds before does not matter.
+ *
+ * Checked here: every length. A room that is short is refusal 1, a result that does not fit refusal 14, a form that is too long,
+ * cut off or damaged 2 to 6. Any bytes may be passed as a form.
+ *
+ * The caller's duty, which nothing checks:
+ *   - a pointer has as many bytes behind it as its length says, readable (form, forms) or readable and writable (room, out);
+ *     with length 0 it is never followed and may be null;
+ *   - report points to a whole report, aligned as its type is; it is never null;
+ *   - room, out and *report do not overlap each other, and neither overlaps form; no other thread uses them during the call;
+ *   - the calling thread has 4 MiB of stack left (README.md says what was measured).
+ * There is no state between calls, nothing is allocated, and threads may call at once with room of their own. */
+#ifndef UMLAZGRIN_H
+#define UMLAZGRIN_H
+
+#include <stddef.h>
+#include <stdint.h>
+
+#ifdef __cplusplus
+extern "C" {
+#endif
+
+/* Bytes of room that every function needs, at least. */
+#define UMLAZGRIN_ROOM 65536
+/* Bytes in a form, at most. */
+#define UMLAZGRIN_FORM 8192
+/* Bytes of output that the program lends. A finished tree can be longer: its parts may be shared, and are written out. */
+#define UMLAZGRIN_OUTPUT 32768
+
+enum umlazgrin_number {
+    UMLAZGRIN_ANSWERED = 0,
+    UMLAZGRIN_ROOM_SMALL = 1,       /* lent working room too small */
+    UMLAZGRIN_FORM_LONG = 2,        /* form over 8,192 bytes */
+    UMLAZGRIN_ENDS_EARLY = 3,       /* form ends early; the empty form too */
+    UMLAZGRIN_BAD_PREFIX = 4,       /* prefix not carried, or not the shortest form */
+    UMLAZGRIN_ATOM_LONG = 5,        /* atom over 64 bytes */
+    UMLAZGRIN_BYTES_AFTER = 6,      /* bytes after the form */
+    UMLAZGRIN_UNITS_OUT = 7,        /* units run out */
+    UMLAZGRIN_FAILS = 8,            /* evaluation fails */
+    UMLAZGRIN_NO_OPERATOR = 9,      /* evaluation meets an operator not carried, or an operator that is a pair */
+    UMLAZGRIN_STEPS_OUT = 10,       /* a 4,097th evaluation step */
+    UMLAZGRIN_PATH_LONG = 11,       /* the path rule's result needs over 64 bytes */
+    UMLAZGRIN_PASSES_OUT = 12,      /* a 65,537th pass */
+    UMLAZGRIN_TOO_DEEP = 13,        /* a driver call at nesting 65 */
+    UMLAZGRIN_OUTPUT_SHORT = 14,    /* result longer than the output */
+    UMLAZGRIN_NO_MATCH = 15,        /* the matcher only: no refusal, the expression is not of the pattern's shape */
+    UMLAZGRIN_TOO_MANY_NAMES = 16   /* the matcher only: no refusal, the pattern asks for a third name */
+};
+
+/* What optimising took. mark is 1 where the finished tree is not promised to mean what the form meant, otherwise 0. */
+struct umlazgrin_optimised { size_t length, passes, units, mark; };
+/* The value's length in bytes, and what evaluating took. */
+struct umlazgrin_evaluated { size_t length, steps, units; };
+/* How many names were bound, 0 to 2, and where in out each part ends: the first name's atom, its tree, the second's, its tree.
+ * Parts follow each other from the start of out; a part that is not there has no bytes. */
+struct umlazgrin_matched { size_t names, name_1, node_1, name_2, node_2; };
+/* The units that reading the form costs. */
+struct umlazgrin_checked { size_t units; };
+struct umlazgrin_written { size_t length, units; };
+
+/* Optimises the form's tree and writes the finished tree to out. */
+uint8_t umlazgrin_optimise(const uint8_t *form, size_t form_length, uint8_t *room, size_t room_length,
+                           uint8_t *out, size_t out_length, struct umlazgrin_optimised *report);
+
+/* Evaluates the program, the first bytes of forms, in the environment, the bytes after them; writes the value to out. */
+uint8_t umlazgrin_evaluate(const uint8_t *forms, size_t forms_length, size_t first, uint8_t *room, size_t room_length,
+                           uint8_t *out, size_t out_length, struct umlazgrin_evaluated *report);
+
+/* Matches the expression, the bytes of forms after the first ones, against the pattern, the first bytes; writes what was bound. */
+uint8_t umlazgrin_match(const uint8_t *forms, size_t forms_length, size_t first, uint8_t *room, size_t room_length,
+                        uint8_t *out, size_t out_length, struct umlazgrin_matched *report);
+
+/* Reads the form and does no more: whether it is one, and its units. */
+uint8_t umlazgrin_check(const uint8_t *form, size_t form_length, uint8_t *room, size_t room_length,
+                        struct umlazgrin_checked *report);
+
+/* Reads the form and writes its tree again: the same bytes. */
+uint8_t umlazgrin_write(const uint8_t *form, size_t form_length, uint8_t *room, size_t room_length,
+                        uint8_t *out, size_t out_length, struct umlazgrin_written *report);
+
+#ifdef __cplusplus
+}
+#endif
+
+#endif

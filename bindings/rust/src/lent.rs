@@ -1,0 +1,123 @@
+//! The functions as they are proved: on slices that the caller lends. Nothing is allocated.
+//!
+//! Every refusal leaves `out` as it came in. An answer writes the first bytes of `out`, as many as it says, and none after
+//! them. `room` is all zero after every return but [`Refusal::RoomSmall`], which leaves it as it came in.
+
+use crate::raw;
+use crate::refusal::Refusal;
+
+/// What optimising took: the finished tree is the first `length` bytes of the output.
+#[derive(Clone, Copy, Debug, PartialEq, Eq)]
+pub struct Optimised {
+    pub length: usize,
+    pub passes: usize,
+    pub units: usize,
+    pub mark: bool,
+}
+
+/// What evaluating took: the value is the first `length` bytes of the output.
+#[derive(Clone, Copy, Debug, PartialEq, Eq)]
+pub struct Evaluated {
+    pub length: usize,
+    pub steps: usize,
+    pub units: usize,
+}
+
+/// Where each written part ends; a part that is not there has no bytes.
+#[derive(Clone, Copy, Debug, PartialEq, Eq)]
+pub struct Parts {
+    pub names: usize,
+    pub name_1: usize,
+    pub node_1: usize,
+    pub name_2: usize,
+    pub node_2: usize,
+}
+
+#[derive(Clone, Copy, Debug, PartialEq, Eq)]
+pub enum Matched {
+    Parts(Parts),
+    NoMatch,
+    TooManyNames,
+}
+
+#[derive(Clone, Copy, Debug, PartialEq, Eq)]
+pub struct Written {
+    pub length: usize,
+    pub units: usize,
+}
+
+/// 0 is an answer; the library returns no other number than those of the enum.
+fn refused(number: u8) -> Result<(), Refusal> {
+    match number {
+        0 => Ok(()),
+        _ => Err(Refusal::from_number(number).expect("the library returns only the numbers of its contract")),
+    }
+}
+
+// In each call below the slices are live for as long as it runs, and apart: `&mut` says so. That is all the library asks.
+
+/// The form's tree, optimised and written to the front of `out`.
+pub fn optimise(form: &[u8], room: &mut [u8], out: &mut [u8]) -> Result<Optimised, Refusal> {
+    let mut report = [0; 4];
+    let number = unsafe {
+        raw::umlazgrin_optimise(
+            form.as_ptr(), form.len(), room.as_mut_ptr(), room.len(), out.as_mut_ptr(), out.len(), &mut report,
+        )
+    };
+    refused(number)?;
+    let [length, passes, units, mark] = report;
+    Ok(Optimised { length, passes, units, mark: mark == 1 })
+}
+
+/// The value of the program, the bytes of `forms` before `first`, in the environment, those from there on.
+pub fn evaluate(forms: &[u8], first: usize, room: &mut [u8], out: &mut [u8]) -> Result<Evaluated, Refusal> {
+    let mut report = [0; 3];
+    let number = unsafe {
+        raw::umlazgrin_evaluate(
+            forms.as_ptr(), forms.len(), first, room.as_mut_ptr(), room.len(), out.as_mut_ptr(), out.len(), &mut report,
+        )
+    };
+    refused(number)?;
+    let [length, steps, units] = report;
+    Ok(Evaluated { length, steps, units })
+}
+
+/// Matches the expression, the bytes of `forms` from `first` on, against the pattern, those before.
+pub fn matches(forms: &[u8], first: usize, room: &mut [u8], out: &mut [u8]) -> Result<Matched, Refusal> {
+    let mut report = [0; 5];
+    let number = unsafe {
+        raw::umlazgrin_match(
+            forms.as_ptr(), forms.len(), first, room.as_mut_ptr(), room.len(), out.as_mut_ptr(), out.len(), &mut report,
+        )
+    };
+    match number {
+        15 => return Ok(Matched::NoMatch),
+        16 => return Ok(Matched::TooManyNames),
+        _ => refused(number)?,
+    }
+    let [names, name_1, node_1, name_2, node_2] = report;
+    Ok(Matched::Parts(Parts { names, name_1, node_1, name_2, node_2 }))
+}
+
+/// The units that the form costs.
+pub fn check(form: &[u8], room: &mut [u8]) -> Result<usize, Refusal> {
+    let mut report = [0; 1];
+    let number = unsafe {
+        raw::umlazgrin_check(form.as_ptr(), form.len(), room.as_mut_ptr(), room.len(), &mut report)
+    };
+    refused(number)?;
+    Ok(report[0])
+}
+
+/// The form's tree written again.
+pub fn write(form: &[u8], room: &mut [u8], out: &mut [u8]) -> Result<Written, Refusal> {
+    let mut report = [0; 2];
+    let number = unsafe {
+        raw::umlazgrin_write(
+            form.as_ptr(), form.len(), room.as_mut_ptr(), room.len(), out.as_mut_ptr(), out.len(), &mut report,
+        )
+    };
+    refused(number)?;
+    let [length, units] = report;
+    Ok(Written { length, units })
+}

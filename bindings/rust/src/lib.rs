@@ -1,0 +1,121 @@
+//! The classic Chialisp optimiser (stage 2), an evaluator, a matcher and a reader of the serialised form, each proved in
+//! Rattle to meet its contract, as a safe Rust library.
+//!
+//! [`Umlazgrin`] owns the working room and an output and hands out owned answers; [`lent`] has the functions on slices that
+//! the caller lends. Give a thread that calls them 4 MiB of stack: the most
+//! that a call was seen to take is under 2 MiB, which is all that Rust gives a thread by itself.
+//!
+//! ```
+//! let mut u = umlazgrin::Umlazgrin::new();
+//! let answer = u.optimise(&[0xff, 0x05, 0xff, 0x01, 0x80])?; // (f 1)
+//! assert_eq!((answer.tree, answer.passes, answer.units, answer.mark), (vec![2], 1, 31, false));
+//! assert_eq!(u.optimise(&[0x81, 0x05]).unwrap_err().number(), 4);
+//! # Ok::<(), umlazgrin::Refusal>(())
+//! ```
+
+pub mod lent;
+pub mod raw;
+mod refusal;
+
+pub use refusal::Refusal;
+
+/// Bytes of working room that every function needs, at least.
+pub const ROOM: usize = 65_536;
+/// Bytes in a form, at most.
+pub const FORM: usize = 8_192;
+/// Bytes of output, where the caller does not choose otherwise.
+pub const OUTPUT: usize = 32_768;
+
+/// A finished tree and what the run took. Where `mark` is false, the tree gives every value that the form gives, in every
+/// environment.
+#[derive(Clone, Debug, PartialEq, Eq)]
+pub struct Answer {
+    pub tree: Vec<u8>,
+    pub passes: usize,
+    pub units: usize,
+    pub mark: bool,
+}
+
+/// A program's value, and what evaluating it took.
+#[derive(Clone, Debug, PartialEq, Eq)]
+pub struct Value {
+    pub tree: Vec<u8>,
+    pub steps: usize,
+    pub units: usize,
+}
+
+/// A name, written as an atom, and the tree that it stands for.
+#[derive(Clone, Debug, PartialEq, Eq)]
+pub struct Binding {
+    pub name: Vec<u8>,
+    pub tree: Vec<u8>,
+}
+
+#[derive(Clone, Debug, PartialEq, Eq)]
+pub enum Match {
+    /// At most two, in the order in which they were bound.
+    Bound(Vec<Binding>),
+    NoMatch,
+    /// The pattern asks for a third name.
+    TooManyNames,
+}
+
+/// The functions, with working room and output of their own.
+pub struct Umlazgrin {
+    room: Box<[u8]>,
+    out: Box<[u8]>,
+}
+
+impl Default for Umlazgrin {
+    fn default() -> Self {
+        Umlazgrin::new()
+    }
+}
+
+impl Umlazgrin {
+    pub fn new() -> Self {
+        Umlazgrin::with_output(OUTPUT)
+    }
+
+    /// A result of more than `length` bytes is [`Refusal::OutputShort`].
+    pub fn with_output(length: usize) -> Self {
+        Umlazgrin { room: vec![0; ROOM].into(), out: vec![0; length].into() }
+    }
+
+    pub fn optimise(&mut self, form: &[u8]) -> Result<Answer, Refusal> {
+        let r = lent::optimise(form, &mut self.room, &mut self.out)?;
+        Ok(Answer { tree: self.out[..r.length].to_vec(), passes: r.passes, units: r.units, mark: r.mark })
+    }
+
+    pub fn evaluate(&mut self, program: &[u8], environment: &[u8]) -> Result<Value, Refusal> {
+        let forms = [program, environment].concat();
+        let r = lent::evaluate(&forms, program.len(), &mut self.room, &mut self.out)?;
+        Ok(Value { tree: self.out[..r.length].to_vec(), steps: r.steps, units: r.units })
+    }
+
+    pub fn matches(&mut self, pattern: &[u8], expression: &[u8]) -> Result<Match, Refusal> {
+        let forms = [pattern, expression].concat();
+        let p = match lent::matches(&forms, pattern.len(), &mut self.room, &mut self.out)? {
+            lent::Matched::NoMatch => return Ok(Match::NoMatch),
+            lent::Matched::TooManyNames => return Ok(Match::TooManyNames),
+            lent::Matched::Parts(p) => p,
+        };
+        let ends = [(0, p.name_1, p.node_1), (p.node_1, p.name_2, p.node_2)];
+        let binding = |(from, name, node): &(usize, usize, usize)| Binding {
+            name: self.out[*from..*name].to_vec(),
+            tree: self.out[*name..*node].to_vec(),
+        };
+        Ok(Match::Bound(ends[..p.names].iter().map(binding).collect()))
+    }
+
+    /// Whether the bytes are a form within the limits, and the units that reading it costs.
+    pub fn check(&mut self, form: &[u8]) -> Result<usize, Refusal> {
+        lent::check(form, &mut self.room)
+    }
+
+    /// The form's tree written again: the same bytes, where the form is read at all.
+    pub fn write(&mut self, form: &[u8]) -> Result<Vec<u8>, Refusal> {
+        let r = lent::write(form, &mut self.room, &mut self.out)?;
+        Ok(self.out[..r.length].to_vec())
+    }
+}

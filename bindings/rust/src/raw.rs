@@ -1,0 +1,24 @@
+//! The static library's functions, unsafe as C has them: bindings/c/umlazgrin.h says what the caller owes. A slice is a pointer and
+//! a length, a report an array of numbers. [`crate::lent`] has them safe.
+
+extern "C" {
+    pub fn umlazgrin_optimise(
+        form: *const u8, form_length: usize, room: *mut u8, room_length: usize, out: *mut u8, out_length: usize,
+        report: *mut [usize; 4],
+    ) -> u8;
+    pub fn umlazgrin_evaluate(
+        forms: *const u8, forms_length: usize, first: usize, room: *mut u8, room_length: usize, out: *mut u8,
+        out_length: usize, report: *mut [usize; 3],
+    ) -> u8;
+    pub fn umlazgrin_match(
+        forms: *const u8, forms_length: usize, first: usize, room: *mut u8, room_length: usize, out: *mut u8,
+        out_length: usize, report: *mut [usize; 5],
+    ) -> u8;
+    pub fn umlazgrin_check(
+        form: *const u8, form_length: usize, room: *mut u8, room_length: usize, report: *mut [usize; 1],
+    ) -> u8;
+    pub fn umlazgrin_write(
+        form: *const u8, form_length: usize, room: *mut u8, room_length: usize, out: *mut u8, out_length: usize,
+        report: *mut [usize; 2],
+    ) -> u8;
+}

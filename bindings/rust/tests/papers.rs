@@ -1,0 +1,103 @@
+//! 01's table "Forms on both sides", and the other functions on small forms.
+
+use umlazgrin::{Binding, Match, Refusal, Umlazgrin};
+
+fn bytes(hex: &str) -> Vec<u8> {
+    (0..hex.len() / 2).map(|i| u8::from_str_radix(&hex[2 * i..2 * i + 2], 16).unwrap()).collect()
+}
+
+/// `f` so many times over 1.
+fn firsts(times: usize) -> Vec<u8> {
+    let mut form = vec![0x01];
+    for _ in 0..times {
+        form = [&[0xff, 0x05, 0xff][..], &form, &[0x80]].concat();
+    }
+    form
+}
+
+#[test]
+fn the_table() {
+    let mut u = Umlazgrin::new();
+    let rows = [
+        ("ff05ffff04ff02ff038080", "02", false),
+        ("ff06ffff04ff02ff038080", "03", false),
+        ("ff02ffff01ff05ff0180ff0180", "02", false),
+        ("ff0180", "80", false),
+        ("ff02ff8005", "80", false),
+        ("ff04ffff0105ffff010680", "ff01ff0506", false),
+        ("ff0880", "ff0880", false),
+        ("ff02ffff01ff04ff03ff0280ff0280", "ff04ff06ff0480", false),
+        ("ff02ffff01ff04ff80ff0280ff0280", "ff04ff02ff0480", true),
+        ("ff05ff4080", "8180", false),
+        ("ff05ff82ff8080", "820100", true),
+    ];
+    for (form, tree, mark) in rows {
+        let answer = u.optimise(&bytes(form)).unwrap();
+        assert_eq!((answer.tree, answer.mark), (bytes(tree), mark), "{form}");
+    }
+    for form in ["ff02ff8080", "ff05ff8080"] {
+        assert_eq!(u.optimise(&bytes(form)), Err(Refusal::Fails), "{form}");
+    }
+}
+
+#[test]
+fn at_the_limits() {
+    let mut u = Umlazgrin::new();
+    let over_32 = u.optimise(&firsts(32)).unwrap();
+    assert_eq!((over_32.tree, over_32.mark), (bytes("820100"), true));
+    assert!(u.optimise(&firsts(63)).is_ok());
+    assert_eq!(u.optimise(&firsts(64)), Err(Refusal::TooDeep));
+    let atom = |n: u8| [&[0xc0, n][..], &vec![0x11; n as usize]].concat();
+    assert_eq!(u.optimise(&atom(64)).unwrap().tree, atom(64));
+    assert_eq!(u.optimise(&atom(65)), Err(Refusal::AtomLong));
+    assert_eq!(u.optimise(&[0xff; 8192]), Err(Refusal::EndsEarly));
+    assert_eq!(u.optimise(&[0xff; 8193]), Err(Refusal::FormLong));
+    assert_eq!(u.optimise(&[]), Err(Refusal::EndsEarly));
+    assert_eq!(Umlazgrin::with_output(0).optimise(&[0x80]), Err(Refusal::OutputShort));
+    assert_eq!(Umlazgrin::with_output(1).optimise(&[0x80]).unwrap().tree, [0x80]);
+}
+
+#[test]
+fn evaluation() {
+    let mut u = Umlazgrin::new();
+    let value = u.evaluate(&bytes("ff04ff02ff0380"), &bytes("ff0506")).unwrap();
+    assert_eq!((value.tree, value.steps, value.units), (bytes("ff0506"), 3, 65));
+    assert_eq!(u.evaluate(&bytes("ff0880"), &bytes("80")), Err(Refusal::Fails));
+    assert_eq!(u.evaluate(&bytes("ff0a80"), &bytes("80")), Err(Refusal::NoOperator));
+    assert_eq!(u.evaluate(&bytes("02"), &[]), Err(Refusal::EndsEarly));
+}
+
+#[test]
+fn matching() {
+    let mut u = Umlazgrin::new();
+    let bound = |pairs: &[(&str, &str)]| {
+        Match::Bound(pairs.iter().map(|(name, tree)| Binding { name: bytes(name), tree: bytes(tree) }).collect())
+    };
+    let two = bytes("ffff3a41ff3a42");
+    assert_eq!(u.matches(&two, &bytes("ff0506")), Ok(bound(&[("41", "05"), ("42", "06")])));
+    assert_eq!(u.matches(&bytes("ff3a41"), &bytes("ff0506")), Ok(bound(&[("41", "ff0506")])));
+    assert_eq!(u.matches(&bytes("ff2405"), &bytes("07")), Ok(bound(&[("05", "07")])));
+    assert_eq!(u.matches(&bytes("ff2405"), &bytes("ff0607")), Ok(Match::NoMatch));
+    assert_eq!(u.matches(&bytes("05"), &bytes("05")), Ok(bound(&[])));
+    assert_eq!(u.matches(&bytes("ffff3a41ffff3a42ff3a43"), &bytes("ff05ff0607")), Ok(Match::TooManyNames));
+    assert_eq!(u.matches(&two, &bytes("ff05")), Err(Refusal::EndsEarly));
+}
+
+#[test]
+fn reading_and_writing() {
+    let mut u = Umlazgrin::new();
+    assert_eq!(u.check(&bytes("ff05ff0180")), Ok(26));
+    assert_eq!(u.check(&bytes("8105")), Err(Refusal::BadPrefix));
+    assert_eq!(u.check(&bytes("0505")), Err(Refusal::BytesAfter));
+    assert_eq!(u.write(&bytes("ff05ff0180")), Ok(bytes("ff05ff0180")));
+}
+
+#[test]
+fn numbers() {
+    for (i, refusal) in Refusal::ALL.iter().enumerate() {
+        assert_eq!(usize::from(refusal.number()), i + 1);
+        assert_eq!(Refusal::from_number(refusal.number()), Some(*refusal));
+    }
+    assert_eq!((Refusal::from_number(0), Refusal::from_number(15)), (None, None));
+    assert_eq!(Refusal::Fails.to_string(), "refusal 8: evaluation fails");
+}

@@ -1,0 +1,112 @@
+// The functions of the static library, for C and Rust: the public ones, with answers as numbers. Each returns 0 for an answer and
+// the number of a refusal; a report is written through an array of its own, since neither an enum nor a struct is a result in C.
+use umlazgrin::Answer;
+use umlazgrin::EvalAnswer;
+use umlazgrin::MatchAnswer;
+use umlazgrin::ReadAnswer;
+use umlazgrin::WriteAnswer;
+ghost use lib.ListN.{length};
+ghost use Rattle.meaning.specs.Run.{run};
+ghost use Rattle.form.specs.Bytes as forms;
+ghost use Rattle.evaluation.specs.Bytes as evaluation;
+ghost use Rattle.matcher.specs.Outcome as matcher;
+ghost use Rattle.library.specs.Reports.{Optimises, Evaluates, Matches, Checks, Writes};
+
+// What the matcher returns beside the refusals' numbers.
+const NO_MATCH: u8 = 15;
+
+const TOO_MANY_NAMES: u8 = 16;
+
+// report: length, passes, units, mark.
+#[no_mangle]
+pub extern "C" fn umlazgrin_optimise(
+    form: &[u8],
+    room: &mut [u8],
+    out: &mut [u8],
+    report: &mut [usize; 4],
+) -> u8
+    ensures { λ n. ⌜ Optimises (run (now (form .entry)) (length (now (room .entry))) (length (now (out .entry)))) (now (room .entry)) (now (room .exit)) (now (out .entry)) (now (out .exit)) (now (report .entry)) (now (report .exit)) n ⌝ }
+{
+    match umlazgrin::optimise(form, room, out) {
+        Answer::Refused(e) => refusals::number_of(e),
+        Answer::Answered(r) => {
+            *report = [r.length, r.passes, r.units, r.mark as usize];
+            0
+        }
+    }
+}
+
+// report: length, steps, units.
+#[no_mangle]
+pub extern "C" fn umlazgrin_evaluate(
+    forms: &[u8],
+    first: usize,
+    room: &mut [u8],
+    out: &mut [u8],
+    report: &mut [usize; 3],
+) -> u8
+    ensures { λ n. ⌜ Evaluates (evaluation.outcome (now (forms .entry)) first (length (now (room .entry))) (length (now (out .entry)))) (now (room .entry)) (now (room .exit)) (now (out .entry)) (now (out .exit)) (now (report .entry)) (now (report .exit)) n ⌝ }
+{
+    match umlazgrin::evaluate(forms, first, room, out) {
+        EvalAnswer::Refused(e) => refusals::number_of(e),
+        EvalAnswer::Value(length, steps, units) => {
+            *report = [length, steps, units];
+            0
+        }
+    }
+}
+
+// report: how many names, and where each of the four parts ends.
+#[no_mangle]
+pub extern "C" fn umlazgrin_match(
+    forms: &[u8],
+    first: usize,
+    room: &mut [u8],
+    out: &mut [u8],
+    report: &mut [usize; 5],
+) -> u8
+    ensures { λ n. ⌜ Matches (matcher.outcome (now (forms .entry)) first (length (now (room .entry))) (length (now (out .entry)))) (now (room .entry)) (now (room .exit)) (now (out .entry)) (now (out .exit)) (now (report .entry)) (now (report .exit)) n ⌝ }
+{
+    match umlazgrin::matches(forms, first, room, out) {
+        MatchAnswer::Refused(e) => refusals::number_of(e),
+        MatchAnswer::NoMatch => NO_MATCH,
+        MatchAnswer::TooManyNames => TOO_MANY_NAMES,
+        MatchAnswer::Matched(p) => {
+            *report = [p.count, p.name_1, p.node_1, p.name_2, p.node_2];
+            0
+        }
+    }
+}
+
+// Reads the form and no more. report: units.
+#[no_mangle]
+pub extern "C" fn umlazgrin_check(form: &[u8], room: &mut [u8], report: &mut [usize; 1]) -> u8
+    ensures { λ n. ⌜ Checks (forms.read-outcome (now (form .entry)) (length (now (room .entry)))) (now (room .entry)) (now (room .exit)) (now (report .entry)) (now (report .exit)) n ⌝ }
+{
+    match umlazgrin::read(form, room) {
+        ReadAnswer::Refused(e) => refusals::number_of(e),
+        ReadAnswer::Read(units) => {
+            *report = [units];
+            0
+        }
+    }
+}
+
+// Reads the form and writes it again. report: length, units.
+#[no_mangle]
+pub extern "C" fn umlazgrin_write(
+    form: &[u8],
+    room: &mut [u8],
+    out: &mut [u8],
+    report: &mut [usize; 2],
+) -> u8
+    ensures { λ n. ⌜ Writes (forms.write-outcome (now (form .entry)) (length (now (room .entry))) (length (now (out .entry)))) (now (room .entry)) (now (room .exit)) (now (out .entry)) (now (out .exit)) (now (report .entry)) (now (report .exit)) n ⌝ }
+{
+    match umlazgrin::write(form, room, out) {
+        WriteAnswer::Refused(e) => refusals::number_of(e),
+        WriteAnswer::Written(length, units) => {
+            *report = [length, units];
+            0
+        }
+    }
+}
