@@ -35,6 +35,9 @@ use Rattle.rules.proofs.Does.{did-same, did-stopped}
 use Rattle.driver_parts.specs.Turns.{again, Fine}
 use Rattle.driver_parts.proofs.Saying.{renamed, goes-on}
 use Rattle.driver_parts.proofs.Wraps.{charge-goes, charge-fails}
+use Rattle.memo.specs.declared.Entry.{Entry}
+use Rattle.memo.specs.Memo.{Sounds}
+use Rattle.memo.proofs.Entries.{sounds-grown}
 use Rattle.driver_parts.proofs.Kept.{fine-kept, fine-same, narrow-parts}
 
 -- S and ARGS of a narrow (a (q . S) ARGS)
@@ -106,6 +109,9 @@ module _ (f : List ℕ) (p : Patterns) (room : List ℕ) (w : Work) (n : ℕ) (h
               fine-same f room r₁ w w′ p n h grown (h .passes),
               fine-kept f room r₁ w w′ p n (v .node) h grown (done-so .bought .stands .ready) (h .passes) (subst Narrow (sym (done-so .bought .stands .tree)) (sub-narrow y z (c .0) (c .1))),
             )
+
+        pub change-valid : (used : ℕ) (memo : List Entry) → Sounds f room (w .ch) (w .mark) used memo → Sounds f r₁ (v .ch) (w .mark) used memo
+        change-valid used memo k = sounds-grown k grown (λ m. m)
 
         charged : charge (sub-cost y z) (spentOf w) ≡ done tt (spentOf w′)
         charged =

@@ -1,3 +1,5 @@
 pub mod Applying
 pub mod Changing
+pub mod Keeping
 pub mod Starting
+mod Simple

@@ -2,6 +2,7 @@
 use mathlib.Core.Path.{_≡_}
 use mathlib.Core.List.{List}
 use Prim.Native.Nat.{ℕ, _-_}
+use lib.ListN.{length}
 use native.Mathlib.Omega.{arith}
 use Rattle.meaning.specs.Limits.{nesting-limit}
 use Rattle.meaning.specs.Driver.{optimize-sexp}
@@ -14,6 +15,12 @@ use Rattle.patterns.specs.Patterns.{Patterned}
 use Rattle.rules.specs.declared.Work.{Work}
 use Rattle.rules.specs.Work.{spentOf, Did}
 use Rattle.driver_parts.specs.Turns.{Fine, fresh-work}
+use Rattle.memo.specs.declared.State.{State}
+use Rattle.memo.specs.Memo.{Valid, sounds}
+
+-- an empty memo
+pub start-valid : (f s : List ℕ) (st : State) → st .used ≡ 0 → length (st .memo) ≡ 256 → Valid f s st
+start-valid f s st e l = sounds l (omega arith) (λ i o. absurd (omega (arith, e)))
 
 module _ (f s : List ℕ) (w : Work) (c : Charges) (n : ℕ) (e : w ≡ fresh-work c) where
   pub start-fine : (p : Patterns) → Ready f s c n → Patterned f s c p → Narrow (treeAt f s n) → Fine f s w p n

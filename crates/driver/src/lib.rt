@@ -1,4 +1,7 @@
 // `optimize_sexp_`: the driver's loop, and the rules that call it.
+use memo::Answer;
+use memo::Entry;
+use memo::State;
 use patterns::Patterns;
 use refusals::Refusal;
 use rules::Applied;
@@ -10,6 +13,7 @@ use substitute::Sub;
 ghost use mathlib.Core.Path.{_≡_};
 ghost use mathlib.Core.Bool.{true, false};
 ghost use Prim.Native.Nat.{_+_, _-_, _≤_, _<_};
+ghost use lib.ListN.{length};
 ghost use Rattle.meaning.specs.Limits.{nesting-limit};
 ghost use Rattle.meaning.specs.Rules.{settle, var-change-optimizer-cons-eval, children-optimizer};
 ghost use Rattle.meaning.specs.Driver.{optimize-sexp};
@@ -20,23 +24,8 @@ ghost use Rattle.patterns.specs.Patterns.{Patterned};
 ghost use Rattle.rules.specs.Work.{spentOf, Did};
 ghost use Rattle.driver_parts.specs.Turns.{again, optimizer, Fine, fresh-work};
 ghost use Rattle.driver_parts.specs.Walk.{walk, Walked};
+ghost use Rattle.memo.specs.Memo.{Valid, Still};
 ghost use Rattle.driver.specs.Alone.{one-rule};
-
-// A finished expression: 12 bytes.
-pub struct Entry {
-    pub expr: u16,
-    pub result: u16,
-    pub passes: u32,
-    pub units: u16,
-    pub height: u8,
-}
-
-// What a run has spent, and the memo.
-pub struct State {
-    pub w: Work,
-    pub used: usize,
-    pub memo: [Entry; 256],
-}
 
 // Works a list's elements left to right, 64 at a time; what was found goes down, the verdict comes up, and then the list is made.
 fn operands(
@@ -49,8 +38,8 @@ fn operands(
     count: bool,
     flag: bool,
 ) -> State
-    requires { ⌜ Fine (now form) (now room) (st .w) p list × (nest < 65) ⌝ }
-    ensures { λ r. ⌜ Walked (now (form .entry)) (now (room .entry)) (now (room .exit)) (st .w) (walk count (again nest) flag (treeAt (now (form .entry)) (now (room .entry)) list) (spentOf (st .w))) (r .w) ⌝ }
+    requires { ⌜ Fine (now form) (now room) (st .w) p list × (nest < 65) × Valid (now form) (now room) st ⌝ }
+    ensures { λ r. ⌜ Walked (now (form .entry)) (now (room .entry)) (now (room .exit)) (st .w) (walk count (again nest) flag (treeAt (now (form .entry)) (now (room .entry)) list) (spentOf (st .w))) (r .w) × Still (now (form .entry)) (now (room .exit)) r ⌝ }
 {
     let mut s = st;
     let mut q = list;
@@ -143,8 +132,8 @@ fn settle(
     low: bool,
     nest: usize,
 ) -> State
-    requires { ⌜ Fine (now form) (now room) (st .w) p r × Fine (now form) (now room) (st .w) p new × (nest < 65) ⌝ }
-    ensures { λ q. ⌜ Did (now (form .entry)) (now (room .entry)) (now (room .exit)) (st .w) (treeAt (now (form .entry)) (now (room .entry)) r) (settle (again nest) (treeAt (now (form .entry)) (now (room .entry)) r) (treeAt (now (form .entry)) (now (room .entry)) new) low (spentOf (st .w))) (q .w) ⌝ }
+    requires { ⌜ Fine (now form) (now room) (st .w) p r × Fine (now form) (now room) (st .w) p new × (nest < 65) × Valid (now form) (now room) st ⌝ }
+    ensures { λ q. ⌜ Did (now (form .entry)) (now (room .entry)) (now (room .exit)) (st .w) (treeAt (now (form .entry)) (now (room .entry)) r) (settle (again nest) (treeAt (now (form .entry)) (now (room .entry)) r) (treeAt (now (form .entry)) (now (room .entry)) new) low (spentOf (st .w))) (q .w) × Still (now (form .entry)) (now (room .exit)) q ⌝ }
 {
     let mut s = st;
     let c = s.w;
@@ -193,8 +182,8 @@ fn settle(
 }
 
 fn var_change(form: &[u8], room: &mut [u8], p: Patterns, st: State, n: usize, nest: usize) -> State
-    requires { ⌜ Fine (now form) (now room) (st .w) p n × (nest < 65) ⌝ }
-    ensures { λ q. ⌜ Did (now (form .entry)) (now (room .entry)) (now (room .exit)) (st .w) (treeAt (now (form .entry)) (now (room .entry)) n) (var-change-optimizer-cons-eval (again nest) (treeAt (now (form .entry)) (now (room .entry)) n) (spentOf (st .w))) (q .w) ⌝ }
+    requires { ⌜ Fine (now form) (now room) (st .w) p n × (nest < 65) × Valid (now form) (now room) st ⌝ }
+    ensures { λ q. ⌜ Did (now (form .entry)) (now (room .entry)) (now (room .exit)) (st .w) (treeAt (now (form .entry)) (now (room .entry)) n) (var-change-optimizer-cons-eval (again nest) (treeAt (now (form .entry)) (now (room .entry)) n) (spentOf (st .w))) (q .w) × Still (now (form .entry)) (now (room .exit)) q ⌝ }
 {
     let mut s = st;
     let c = s.w;
@@ -230,8 +219,8 @@ fn var_change(form: &[u8], room: &mut [u8], p: Patterns, st: State, n: usize, ne
 // ---- 5. `children_optimizer`
 
 fn children(form: &[u8], room: &mut [u8], p: Patterns, st: State, n: usize, nest: usize) -> State
-    requires { ⌜ Fine (now form) (now room) (st .w) p n × (nest < 65) ⌝ }
-    ensures { λ q. ⌜ Did (now (form .entry)) (now (room .entry)) (now (room .exit)) (st .w) (treeAt (now (form .entry)) (now (room .entry)) n) (children-optimizer (again nest) (treeAt (now (form .entry)) (now (room .entry)) n) (spentOf (st .w))) (q .w) ⌝ }
+    requires { ⌜ Fine (now form) (now room) (st .w) p n × (nest < 65) × Valid (now form) (now room) st ⌝ }
+    ensures { λ q. ⌜ Did (now (form .entry)) (now (room .entry)) (now (room .exit)) (st .w) (treeAt (now (form .entry)) (now (room .entry)) n) (children-optimizer (again nest) (treeAt (now (form .entry)) (now (room .entry)) n) (spentOf (st .w))) (q .w) × Still (now (form .entry)) (now (room .exit)) q ⌝ }
 {
     let mut s = st;
     let c = s.w;
@@ -249,9 +238,9 @@ fn children(form: &[u8], room: &mut [u8], p: Patterns, st: State, n: usize, nest
     return s;
 }
 
-// ---- the choice by rule number
+// ---- the rules that call the driver, by number
 
-// Rule number `rule` of a pass.
+// Rule 4 or 5 of a pass.
 fn choice(
     form: &[u8],
     room: &mut [u8],
@@ -261,31 +250,26 @@ fn choice(
     nest: usize,
     rule: usize,
 ) -> State
-    requires { ⌜ Fine (now form) (now room) (st .w) p n × (nest < 65) × (0 < rule) × (rule ≤ 8) ⌝ }
-    ensures { λ q. ⌜ Did (now (form .entry)) (now (room .entry)) (now (room .exit)) (st .w) (treeAt (now (form .entry)) (now (room .entry)) n) (optimizer (again nest) rule (treeAt (now (form .entry)) (now (room .entry)) n) (spentOf (st .w))) (q .w) ⌝ }
+    requires { ⌜ Fine (now form) (now room) (st .w) p n × (nest < 65) × (3 < rule) × (rule < 6) × Valid (now form) (now room) st ⌝ }
+    ensures { λ q. ⌜ Did (now (form .entry)) (now (room .entry)) (now (room .exit)) (st .w) (treeAt (now (form .entry)) (now (room .entry)) n) (optimizer (again nest) rule (treeAt (now (form .entry)) (now (room .entry)) n) (spentOf (st .w))) (q .w) × Still (now (form .entry)) (now (room .exit)) q ⌝ }
 {
     let mut s = st;
     if rule == 4 {
         s = var_change(form, room, p, s, n, nest);
         return s;
     }
-    if rule == 5 {
-        s = children(form, room, p, s, n, nest);
-        return s;
-    }
-    let c = s.w;
-    let d = driver_parts::simple(form, room, p, c, n, rule);
-    s.w = d;
+    s = children(form, room, p, s, n, nest);
     return s;
 }
 
 // ---- the driver
 
-// `optimize_sexp_` at nesting `nest`: turns over a node until no rule ends a pass; Same where none did.
-// `left` rules are left in a turn; where none is, a turn begins.
+// `optimize_sexp_` at nesting `nest`: what the memo says; else turns over a node until no rule ends a pass, and then an entry. Same where
+// no rule ended one. `left` rules are left in a turn; where none is, a turn begins. Rules 4 and 5, where 5 and 4 are left, get the state;
+// the others need what is spent alone, so that 3 kB of memo are not copied for them.
 pub fn drive(form: &[u8], room: &mut [u8], p: Patterns, st: State, n: usize, nest: usize) -> State
-    requires { ⌜ Fine (now form) (now room) (st .w) p n × (nest < 66) ⌝ }
-    ensures { λ q. ⌜ Did (now (form .entry)) (now (room .entry)) (now (room .exit)) (st .w) (treeAt (now (form .entry)) (now (room .entry)) n) (optimize-sexp (65 - nest) (treeAt (now (form .entry)) (now (room .entry)) n) (spentOf (st .w))) (q .w) ⌝ }
+    requires { ⌜ Fine (now form) (now room) (st .w) p n × (nest < 66) × Valid (now form) (now room) st ⌝ }
+    ensures { λ q. ⌜ Did (now (form .entry)) (now (room .entry)) (now (room .exit)) (st .w) (treeAt (now (form .entry)) (now (room .entry)) n) (optimize-sexp (65 - nest) (treeAt (now (form .entry)) (now (room .entry)) n) (spentOf (st .w))) (q .w) × Still (now (form .entry)) (now (room .exit)) q ⌝ }
 {
     let mut s = st;
     let c = s.w;
@@ -294,13 +278,40 @@ pub fn drive(form: &[u8], room: &mut [u8], p: Patterns, st: State, n: usize, nes
         s.w = d;
         return s;
     }
+    let m = s.memo;
+    let used = s.used;
+    match memo::lookup(form, room, c, m, used, n, nest) {
+        Answer::Known(d) => {
+            s.w = d;
+            return s;
+        }
+        Answer::Unknown => {}
+    }
     let mut r = n;
     let mut left: usize = 0;
     let mut moved = false;
     loop {
-        if 0 < left {
+        if left / 2 == 2 {
             s = choice(form, room, p, s, r, nest, 9 - left);
             let e = s.w;
+            let o = e.last;
+            match o {
+                Outcome::Stopped(_) => {
+                    return s;
+                }
+                Outcome::Same => {
+                    left -= 1;
+                }
+                Outcome::Changed(m) => {
+                    r = m;
+                    left = 0;
+                    moved = true;
+                }
+            }
+        } else if 0 < left {
+            let w = s.w;
+            let e = driver_parts::simple(form, room, p, w, r, 9 - left);
+            s.w = e;
             let o = e.last;
             match o {
                 Outcome::Stopped(_) => {
@@ -310,6 +321,7 @@ pub fn drive(form: &[u8], room: &mut [u8], p: Patterns, st: State, n: usize, nes
                     if left <= 1 {
                         let d = driver_parts::finish(e, r, moved);
                         s.w = d;
+                        s = memo::store(form, room, s, c, n, r, nest);
                         return s;
                     }
                     left -= 1;
@@ -328,6 +340,7 @@ pub fn drive(form: &[u8], room: &mut [u8], p: Patterns, st: State, n: usize, nes
                 Outcome::Changed(_) => {
                     let d = driver_parts::finish(b, r, moved);
                     s.w = d;
+                    s = memo::store(form, room, s, c, n, r, nest);
                     return s;
                 }
                 Outcome::Stopped(_) => {
@@ -345,7 +358,7 @@ pub fn drive(form: &[u8], room: &mut [u8], p: Patterns, st: State, n: usize, nes
 
 // A state that has spent what ch says, with an empty memo.
 fn fresh(ch: Charges) -> State
-    ensures { λ r. ⌜ r .w ≡ fresh-work ch ⌝ }
+    ensures { λ r. ⌜ (r .w ≡ fresh-work ch) × (r .used ≡ 0) × (length (r .memo) ≡ 256) ⌝ }
 {
     let e = Entry {
         expr: 0,
@@ -398,9 +411,12 @@ pub fn apply_node(
         Outcome::Changed(_) => rules::with(b, Outcome::Same),
         Outcome::Stopped(_) => b,
         Outcome::Same => {
-            s.w = b;
-            let r = choice(form, room, p, s, n, 1, rule);
-            r.w
+            if rule / 2 == 2 {
+                s.w = b;
+                let r = choice(form, room, p, s, n, 1, rule);
+                return r.w;
+            }
+            driver_parts::simple(form, room, p, b, n, rule)
         }
     }
 }

@@ -2,9 +2,8 @@
 use mathlib.Core.Path.{_≡_, refl, sym, _∙_}
 use mathlib.Core.List.{List}
 use mathlib.Core.Bool.{Bool, true, false, not}
-use Prim.Native.Nat.{ℕ, _<_, _≤_}
+use Prim.Native.Nat.{ℕ}
 use Rattle.meaning.specs.Tree.{Tree, is-quote}
-use Rattle.meaning.specs.Meter.{give}
 use Rattle.meaning.specs.Substitute.{is-proper}
 use Rattle.meaning.specs.Rules.{children-optimizer, var-change-optimizer-cons-eval}
 use Rattle.meaning.specs.Driver.{optimizers}
@@ -20,9 +19,8 @@ use Rattle.rules.specs.Work.{spentOf, with-last, Did}
 use Rattle.rules.proofs.Does.{did-same}
 use Rattle.driver_parts.specs.Turns.{again, optimizer, Fine}
 use Rattle.driver_parts.specs.Walk.{walk, Walked}
-use Rattle.driver_parts.proofs.Saying.{say-same, say-changed, say-stopped, renamed, walked-none, walked-made, walked-stopped}
+use Rattle.driver_parts.proofs.Saying.{say-same, say-changed, say-stopped, walked-none, walked-made, walked-stopped}
 use Rattle.driver_parts.proofs.Settling.{not-yes, not-no}
-use Rattle.driver_parts.proofs.Numbers.{any-driver}
 
 module _ (f : List ℕ) (p : Patterns) (nest : ℕ) (room : List ℕ) (w : Work) (n : ℕ) (h : Fine f room w p n) where
   abbrev x : Tree
@@ -76,8 +74,3 @@ module _ (f : List ℕ) (p : Patterns) (nest : ℕ) (room : List ℕ) (w : Work)
       → Did f room r₁ w (treeAt f room n) (optimizer (again nest) rule (treeAt f room n) (spentOf w)) w₁
   unfolding optimizer optimizers
   choice-5 r₁ w₁ rule d e = rw e d
-
-  pub choice-simple : (r₁ : List ℕ) (w₁ : Work) (rule : ℕ) → Did f room r₁ w (treeAt f room n) (optimizer give rule (treeAt f room n) (spentOf w)) w₁
-      → 0 < rule → rule ≤ 8 → (rule ≡ 4 → ⊥) → (rule ≡ 5 → ⊥)
-      → Did f room r₁ w (treeAt f room n) (optimizer (again nest) rule (treeAt f room n) (spentOf w)) w₁
-  choice-simple r₁ w₁ rule d l m n4 n5 = renamed f room r₁ w w₁ x _ _ d (any-driver give (again nest) rule x (spentOf w) (record { least = l; most = m; not-4 = n4; not-5 = n5 }))

@@ -15,6 +15,7 @@ use Rattle.meaning.proofs.NarrowDriver.{optimize-narrow}
 use Rattle.meaning.proofs.Cost.{Steady, steady-fits, steady-give}
 use Rattle.meaning.proofs.CostRun.{of-run, Fits}
 use Rattle.meaning.proofs.CostDriver.{to-be-steady, steady-driver}
+use Rattle.meaning.proofs.MemoMark.{Marked, still-marked}
 use Rattle.meaning.proofs.Walk.{walk-constant, walk-path, walk-change, walk-children-optimizer}
 use Rattle.driver_parts.specs.Turns.{optimizer, Simple}
 
@@ -61,6 +62,11 @@ rule-passes d k t u s x f h =
     let c = steady-at d (k - 1) t s x u f h in
     let e : x .passes ≡ s .passes + c .cost .passes = ap (λ (y : Spent). y .passes) (c .spent) in
     omega arith
+
+-- and no mark is taken away
+pub rule-marks : (d k : ℕ) (t u : Tree) (s x : Spent) → Fits s → optimizer (optimize-sexp d) k t s ≡ done u x → Marked s x
+unfolding optimizer
+rule-marks d k t u s x f h = still-marked (steady-at d (k - 1) t) s s x u f h (λ e. e)
 
 -- ---- a rule keeps a tree narrow
 

@@ -1,7 +1,7 @@
 -- What each call and each return of substitution needs. Assumes nothing.
 use Prim.Native.Nat.{ℕ, _+_, _*_, _<_}
 use native.Mathlib.Omega.{arith}
-use native.Mathlib.Nat.{add-comm}
+use native.Mathlib.Nat.{add-comm, zero-add}
 use mathlib.Core.Path.{_≡_, refl, sym, _∙_, ap, ap₂}
 use mathlib.Core.List.{List}
 use mathlib.Core.Bool.{Bool, true, false, _||_}
@@ -21,32 +21,27 @@ use Rattle.store.specs.Makers.{Grown, Over, MadeOk}
 use Rattle.store.proofs.Ready.{grown-none, grown-ready, grown-tree, fall-left, fall-right, look-pair, look-atom, ready-right}
 use Rattle.sexp.specs.Tests.{is-byte-tree}
 use Rattle.pattern.specs.Bound.{Named}
-use Rattle.patterns.specs.declared.Patterns.{Patterns}
-use Rattle.patterns.specs.Patterns.{Patterned}
-use Rattle.patterns.proofs.Laws.{patterned-grown}
+use Rattle.patterns.specs.Patterns.{Shows}
+use Rattle.patterns.proofs.Laws.{shows-grown}
 use Rattle.substitute.specs.declared.Substituted.{Substituted}
 use Rattle.substitute.specs.declared.Sub.{Sub}
 use Rattle.substitute.specs.declared.Sub.the-variants as sub
-use Rattle.substitute.specs.Sub.{list-tree, list-cost, list-low, Replaced, SubOk, sub-made}
+use Rattle.substitute.specs.Sub.{head-tree, head-cost, head-low, list-tree, list-cost, list-low, Replaced, SubOk, sub-made}
 use Rattle.substitute.proofs.Bought.{bought-none, bought-then, over-then, over-more}
 use Rattle.substitute.proofs.Turns.{named-tree}
 
 -- ---- the definition by the head of the body
 
-list-of-pair : (h x y r args : Tree) → h ≡ pair x y
-    → (sub-cost (pair h r) args ≡ sub-cost h args + list-cost r args) × (sub-args (pair h r) args ≡ list-tree (sub-args h args) r args) × (reads-low (pair h r) ≡ list-low (reads-low h) r)
-unfolding sub-cost sub-args reads-low list-cost list-tree list-low
-list-of-pair h x y r args e = rw e (refl, refl, refl)
+list-of-head : (h r args : Tree) → is-byte-tree 1 h ≡ false
+    → (sub-cost (pair h r) args ≡ head-cost h args + list-cost r args) × (sub-args (pair h r) args ≡ list-tree (head-tree h args) r args) × (reads-low (pair h r) ≡ list-low (head-low h) r)
+unfolding sub-cost sub-args reads-low head-cost head-tree head-low list-cost list-tree list-low is-byte-tree
+list-of-head (atom b) r args q = let z : is-byte 1 b ≡ false = q in (rw (z, sub-cost) (sym (zero-add (list-cost r args))), rw (z, sub-args), rw z)
+list-of-head (pair x y) r args q = (refl, refl, refl)
 
-list-of-atom : (h r args : Tree) (b : List ℕ) → h ≡ atom b → is-byte-tree 1 h ≡ false
-    → (sub-cost (pair h r) args ≡ list-cost r args) × (sub-args (pair h r) args ≡ list-tree h r args) × (reads-low (pair h r) ≡ list-low false r)
-unfolding sub-cost sub-args reads-low list-cost list-tree list-low is-byte-tree
-list-of-atom h r args b e q = let z : is-byte 1 b ≡ false = rw e at q in rw (e, z) (refl, refl, refl)
-
-quote-stays : (h r args : Tree) (b : List ℕ) → h ≡ atom b → is-byte-tree 1 h ≡ true
-    → (sub-cost (pair h r) args ≡ 0) × (sub-args (pair h r) args ≡ pair h r) × (reads-low (pair h r) ≡ false)
+quote-stays : (h r args : Tree) → is-byte-tree 1 h ≡ true → (sub-cost (pair h r) args ≡ 0) × (sub-args (pair h r) args ≡ pair h r) × (reads-low (pair h r) ≡ false)
 unfolding sub-cost sub-args reads-low is-byte-tree
-quote-stays h r args b e q = let z : is-byte 1 b ≡ true = rw e at q in rw (e, z) (refl, refl, refl)
+quote-stays (atom b) r args q = let z : is-byte 1 b ≡ true = q in (rw (z, sub-cost), rw (z, sub-args), rw z)
+quote-stays (pair x y) r args q = let z : false ≡ true = q in (cc, cc, cc)
 
 proper-list : (h r args : Tree) (l : Bool) → is-proper r ≡ true
     → (list-cost r args ≡ pair-cost + sub-each-cost r args) × (list-tree h r args ≡ pair h (sub-each r args)) × (list-low l r ≡ (l || reads-low-each r))
@@ -98,8 +93,8 @@ module _ {f s s₁ : List ℕ} {c : Charges} {k : ℕ} {t : Tree} {l : Bool} {x 
   pub done-tree : (m : ℕ) → Ready f s c m → treeAt f s₁ m ≡ treeAt f s m
   done-tree m r = grown-tree done-grown r
 
-  pub done-patterned : (p : Patterns) → Patterned f s c p → Patterned f s₁ (x .ch) p
-  done-patterned p q = patterned-grown done-grown q
+  pub done-shows : (m : ℕ) (u : Tree) → Shows f s c m u → Shows f s₁ (x .ch) m u
+  done-shows m u q = shows-grown done-grown q
 
   pub sub-then : (s₂ : List ℕ) (k′ : ℕ) (t′ : Tree) (l′ : Bool) (a : Sub) → SubOk f s₁ s₂ (x .ch) k′ t′ l′ a → SubOk f s s₂ c (k + k′) t′ l′ a
   unfolding SubOk
@@ -128,13 +123,16 @@ module _ (f s : List ℕ) (c : Charges) (body g rest t : ℕ) (q : Cell) (i : q 
   pub below-tail : 2 * rest < t
   below-tail = let o : rest < body = fall-right f s c body g rest q i e in omega arith
 
+  pub below-first : 2 * g + 1 < t
+  below-first = let o : g < body = fall-left f s c body g rest q i e in omega arith
+
   pub below-list : 2 * rest + 1 < t
   below-list = let o : rest < body = fall-right f s c body g rest q i e in omega arith
 
 pub named : (f s : List ℕ) (c : Charges) (n : ℕ) (q : Cell) → q ≡ Atom → q ≡ cellAt s n → Ready f s c n → Named f s c n
 named f s c n q i e r = record { ready = r; isAtom = sym e ∙ i }
 
--- a cell that is some pair, for an arm that binds no parts, or not both
+-- a cell that is some pair, for an arm that does not bind both parts
 pub record SomePair (q : Cell) : Type 0 where
   pub left : ℕ
   pub right : ℕ
@@ -159,47 +157,36 @@ module _ (f s : List ℕ) (c : Charges) (body g args : ℕ) (q : Cell) (e : q �
   pub tail-ready : Ready f s c (n .right)
   tail-ready = ready-right f s c body g (n .right) q (n .is) e r
 
-  -- the head is a pair
-  module _ (d : Cell) (e′ : d ≡ cellAt s g) (i′ : SomePair d) where
-    head : treeAt f s g ≡ pair (treeAt f s (i′ .left)) (treeAt f s (i′ .right))
-    head = look-pair f s c g (i′ .left) (i′ .right) d (i′ .is) e′
+  module _ (u : Bool) (eu : u ≡ is-byte-tree 1 (treeAt f s g)) where
+    pub quote-kept : u ≡ true → SubOk f s s c (sub-cost (treeAt f s body) (treeAt f s args)) (sub-args (treeAt f s body) (treeAt f s args)) (reads-low (treeAt f s body)) (sub.Done (record { ch = c; low = false; node = body }))
+    quote-kept z =
+        let (k, t, l) = quote-stays (treeAt f s g) (treeAt f s (n .right)) (treeAt f s args) (sym eu ∙ z) in
+        sub-is f s s c 0 _ (treeAt f s body) _ false _ _ (sub-none f s c body false r) (ap (λ w. sub-cost w (treeAt f s args)) tree ∙ k) (ap (λ w. sub-args w (treeAt f s args)) tree ∙ t ∙ sym tree) (ap reads-low tree ∙ l)
 
-    module _ (s₁ : List ℕ) (a : Sub) (h : SubOk f s s₁ c (sub-cost (treeAt f s g) (treeAt f s args)) (sub-args (treeAt f s g) (treeAt f s args)) (reads-low (treeAt f s g)) a) where
-      pub pair-stops : (w : Refusal) → a ≡ sub.Refused w
+    -- no quote: the head, then the list
+    module _ (no : u ≡ false) (s₁ : List ℕ) (a : Sub) (h : SubOk f s s₁ c (head-cost (treeAt f s g) (treeAt f s args)) (head-tree (treeAt f s g) (treeAt f s args)) (head-low (treeAt f s g)) a) where
+      pub head-stops : (w : Refusal) → a ≡ sub.Refused w
           → SubOk f s s₁ c (sub-cost (treeAt f s body) (treeAt f s args)) (sub-args (treeAt f s body) (treeAt f s args)) (reads-low (treeAt f s body)) (sub.Refused w)
-      pair-stops w z =
-          let (k, t, l) = list-of-pair (treeAt f s g) (treeAt f s (i′ .left)) (treeAt f s (i′ .right)) (treeAt f s (n .right)) (treeAt f s args) head in
+      head-stops w z =
+          let (k, t, l) = list-of-head (treeAt f s g) (treeAt f s (n .right)) (treeAt f s args) (sym eu ∙ no) in
           rw (tree, k) (sub-stop f s s₁ c _ _ _ w (over-more (list-cost (treeAt f s (n .right)) (treeAt f s args)) (sub-over f s s₁ c _ _ _ a h w z)))
 
       module _ (v : Substituted) (z : a ≡ sub.Done v) where
-        rep : Replaced f s s₁ c (sub-cost (treeAt f s g) (treeAt f s args)) (sub-args (treeAt f s g) (treeAt f s args)) (reads-low (treeAt f s g)) v
+        rep : Replaced f s s₁ c (head-cost (treeAt f s g) (treeAt f s args)) (head-tree (treeAt f s g) (treeAt f s args)) (head-low (treeAt f s g)) v
         rep = sub-done f s s₁ c _ _ _ a h v z
 
-        pub pair-listed : (s₂ : List ℕ) (b : Sub)
+        pub head-listed : (s₂ : List ℕ) (b : Sub)
             → SubOk f s₁ s₂ (v .ch) (list-cost (treeAt f s₁ (n .right)) (treeAt f s₁ args)) (list-tree (treeAt f s₁ (v .node)) (treeAt f s₁ (n .right)) (treeAt f s₁ args)) (list-low (v .low) (treeAt f s₁ (n .right))) b
             → Ready f s c args
             → SubOk f s s₂ c (sub-cost (treeAt f s body) (treeAt f s args)) (sub-args (treeAt f s body) (treeAt f s args)) (reads-low (treeAt f s body)) b
-        pair-listed s₂ b p ra =
-            let (k, t, l) = list-of-pair (treeAt f s g) (treeAt f s (i′ .left)) (treeAt f s (i′ .right)) (treeAt f s (n .right)) (treeAt f s args) head in
+        head-listed s₂ b p ra =
+            let (k, t, l) = list-of-head (treeAt f s g) (treeAt f s (n .right)) (treeAt f s args) (sym eu ∙ no) in
             let er : treeAt f s₁ (n .right) ≡ treeAt f s (n .right) = done-tree rep (n .right) tail-ready in
             let ea : treeAt f s₁ args ≡ treeAt f s args = done-tree rep args ra in
-            let ev : treeAt f s₁ (v .node) ≡ sub-args (treeAt f s g) (treeAt f s args) = rep .bought .stands .tree in
-            let p′ : SubOk f s₁ s₂ (v .ch) (list-cost (treeAt f s (n .right)) (treeAt f s args)) (list-tree (sub-args (treeAt f s g) (treeAt f s args)) (treeAt f s (n .right)) (treeAt f s args)) (list-low (reads-low (treeAt f s g)) (treeAt f s (n .right))) b =
+            let ev : treeAt f s₁ (v .node) ≡ head-tree (treeAt f s g) (treeAt f s args) = rep .bought .stands .tree in
+            let p′ : SubOk f s₁ s₂ (v .ch) (list-cost (treeAt f s (n .right)) (treeAt f s args)) (list-tree (head-tree (treeAt f s g) (treeAt f s args)) (treeAt f s (n .right)) (treeAt f s args)) (list-low (head-low (treeAt f s g)) (treeAt f s (n .right))) b =
             rw (er, ea, ev, rep .low) at p in
             rw (tree, k, t, l) (sub-then rep s₂ _ _ _ b p′)
-
-  -- the head is an atom
-  module _ (d : Cell) (e′ : d ≡ cellAt s g) (i′ : d ≡ Atom) (u : Bool) (eu : u ≡ is-byte-tree 1 (treeAt f s g)) where
-    pub quote-kept : u ≡ true → SubOk f s s c (sub-cost (treeAt f s body) (treeAt f s args)) (sub-args (treeAt f s body) (treeAt f s args)) (reads-low (treeAt f s body)) (sub.Done (record { ch = c; low = false; node = body }))
-    quote-kept z =
-        let (k, t, l) = quote-stays (treeAt f s g) (treeAt f s (n .right)) (treeAt f s args) (bytesAt f s g) (look-atom f s g d e′ i′) (sym eu ∙ z) in
-        sub-is f s s c 0 _ (treeAt f s body) _ false _ _ (sub-none f s c body false r) (ap (λ w. sub-cost w (treeAt f s args)) tree ∙ k) (ap (λ w. sub-args w (treeAt f s args)) tree ∙ t ∙ sym tree) (ap reads-low tree ∙ l)
-
-    pub atom-listed : u ≡ false → (s₂ : List ℕ) (b : Sub) → SubOk f s s₂ c (list-cost (treeAt f s (n .right)) (treeAt f s args)) (list-tree (treeAt f s g) (treeAt f s (n .right)) (treeAt f s args)) (list-low false (treeAt f s (n .right))) b
-        → SubOk f s s₂ c (sub-cost (treeAt f s body) (treeAt f s args)) (sub-args (treeAt f s body) (treeAt f s args)) (reads-low (treeAt f s body)) b
-    atom-listed z s₂ b p =
-        let (k, t, l) = list-of-atom (treeAt f s g) (treeAt f s (n .right)) (treeAt f s args) (bytesAt f s g) (look-atom f s g d e′ i′) (sym eu ∙ z) in
-        rw (tree, k, t, l) p
 
   -- an operand, and those after it
   module _ (s₁ : List ℕ) (a : Sub) (h : SubOk f s s₁ c (sub-cost (treeAt f s g) (treeAt f s args)) (sub-args (treeAt f s g) (treeAt f s args)) (reads-low (treeAt f s g)) a) where
@@ -218,8 +205,8 @@ module _ (f s : List ℕ) (c : Charges) (body g args : ℕ) (q : Cell) (e : q �
       pub each-args : Ready f s c args → Ready f s₁ (v .ch) args
       each-args ra = done-old one args ra
 
-      pub each-patterned : (p : Patterns) → Patterned f s c p → Patterned f s₁ (v .ch) p
-      each-patterned p q = done-patterned one p q
+      pub each-shows : (m : ℕ) (u : Tree) → Shows f s c m u → Shows f s₁ (v .ch) m u
+      each-shows m u q = done-shows one m u q
 
       module _ (s₂ : List ℕ) (b : Sub) (p : SubOk f s₁ s₂ (v .ch) (sub-each-cost (treeAt f s₁ (n .right)) (treeAt f s₁ args)) (sub-each (treeAt f s₁ (n .right)) (treeAt f s₁ args)) (reads-low-each (treeAt f s₁ (n .right))) b) (ra : Ready f s c args) where
         others : SubOk f s₁ s₂ (v .ch) (sub-each-cost (treeAt f s (n .right)) (treeAt f s args)) (sub-each (treeAt f s (n .right)) (treeAt f s args)) (reads-low-each (treeAt f s (n .right))) b
@@ -259,6 +246,23 @@ unfolding sub-each-cost sub-each reads-low-each
 each-end f s c n args q e i r =
     let z : treeAt f s n ≡ atom (bytesAt f s n) = look-atom f s n q e i in
     rw z (rw z at (sub-none f s c n false r))
+
+-- ---- the head of a list that is no quote
+
+module _ (f s : List ℕ) (c : Charges) (g args : ℕ) (q : Cell) (e : q ≡ cellAt s g) where
+  pub head-atom : q ≡ Atom → Ready f s c g
+      → SubOk f s s c (head-cost (treeAt f s g) (treeAt f s args)) (head-tree (treeAt f s g) (treeAt f s args)) (head-low (treeAt f s g)) (sub.Done (record { ch = c; low = false; node = g }))
+  unfolding head-cost head-tree head-low
+  head-atom i r =
+      let z : treeAt f s g ≡ atom (bytesAt f s g) = look-atom f s g q e i in
+      rw z (rw z at (sub-none f s c g false r))
+
+  pub head-pair : (s₁ : List ℕ) (a : Sub) → SubOk f s s₁ c (sub-cost (treeAt f s g) (treeAt f s args)) (sub-args (treeAt f s g) (treeAt f s args)) (reads-low (treeAt f s g)) a → SomePair q
+      → SubOk f s s₁ c (head-cost (treeAt f s g) (treeAt f s args)) (head-tree (treeAt f s g) (treeAt f s args)) (head-low (treeAt f s g)) a
+  unfolding head-cost head-tree head-low
+  head-pair s₁ a h i =
+      let z : treeAt f s g ≡ pair (treeAt f s (i .left)) (treeAt f s (i .right)) = look-pair f s c g (i .left) (i .right) q (i .is) e in
+      rw z (rw z at h)
 
 -- ---- the list of a head that is worked
 

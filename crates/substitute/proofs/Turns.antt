@@ -25,9 +25,8 @@ use Rattle.store.proofs.Charging.{made-node, made-over}
 use Rattle.paths.proofs.TurnLaws.{next-turn}
 use Rattle.paths.proofs.SignedLaws.{sub-turns-are}
 use Rattle.pattern.specs.Bound.{Named}
-use Rattle.patterns.specs.declared.Patterns.{Patterns}
-use Rattle.patterns.specs.Patterns.{Patterned}
-use Rattle.patterns.proofs.Laws.{patterned-grown}
+use Rattle.patterns.specs.Patterns.{Shows}
+use Rattle.patterns.proofs.Laws.{shows-grown}
 use Rattle.substitute.specs.Sub.{cons-part}
 
 -- ---- an atom of the body
@@ -95,8 +94,8 @@ module _ (f s₀ s : List ℕ) (c₀ c : Charges) (n args count a i : ℕ) (w : 
   pub walk-ready : Ready f s c a
   walk-ready = w .ready
 
-  pub walk-patterned : {p : Patterns} → Patterned f s₀ c₀ p → Patterned f s c p
-  walk-patterned h = patterned-grown (w .grown) h
+  pub walk-shows : {m : ℕ} {t : Tree} → Shows f s₀ c₀ m t → Shows f s c m t
+  walk-shows h = shows-grown (w .grown) h
 
   -- the turn that is next
   module _ (right : Bool) (l : i < count) (e : right ≡ getD (sub-turns (bytesAt f s n)) i false) (h : Named f s₀ c₀ n) where

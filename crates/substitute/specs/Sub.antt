@@ -4,10 +4,10 @@ use mathlib.Core.Path.{_≡_}
 use mathlib.Core.List.{List, []}
 use mathlib.Core.Bool.{Bool, true, false, _&&_, _||_}
 use mathlib.Core.Option.{Option}
-use Rattle.meaning.specs.Tree.{Tree, pair}
+use Rattle.meaning.specs.Tree.{Tree, atom, pair}
 use Rattle.meaning.specs.Limits.{pair-cost}
 use Rattle.meaning.specs.Match.{match-sexp, got}
-use Rattle.meaning.specs.Substitute.{first-name, rest-name, cons-pattern, cons-f, cons-r, is-proper, sub-each, sub-each-cost, reads-low-each}
+use Rattle.meaning.specs.Substitute.{first-name, rest-name, cons-pattern, cons-f, cons-r, is-proper, sub-args, sub-each, sub-cost, sub-each-cost, reads-low, reads-low-each}
 use Rattle.store.specs.declared.Charges.{Charges}
 use Rattle.store.specs.declared.Made.{Made}
 use Rattle.store.specs.declared.Made.the-variants.{Node, Refused}
@@ -29,6 +29,23 @@ unfoldable pub cons-part : Bool → Tree → Tree
 unfolding cons-f cons-r
 cons-part false args = cons-f args
 cons-part true args = cons-r args
+
+-- ---- the head of a list that is no quote: an atom stays, and is not read; a pair is worked
+
+unfoldable pub head-tree : Tree → Tree → Tree
+unfolding sub-args
+head-tree (atom b) args = atom b
+head-tree (pair x y) args = sub-args (pair x y) args
+
+unfoldable pub head-cost : Tree → Tree → ℕ
+unfolding sub-cost
+head-cost (atom b) args = 0
+head-cost (pair x y) args = sub-cost (pair x y) args
+
+unfoldable pub head-low : Tree → Bool
+unfolding reads-low
+head-low (atom b) = false
+head-low (pair x y) = reads-low (pair x y)
 
 -- ---- the list of a head that is worked already, as `sub-args` makes it
 

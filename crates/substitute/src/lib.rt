@@ -11,15 +11,15 @@ ghost use Prim.Native.Nat.{_+_, _<_};
 ghost use lib.ListN.{length, getD};
 ghost use Rattle.meaning.specs.Tree.{pair, nil, byte};
 ghost use Rattle.meaning.specs.Limits.{pair-cost};
-ghost use Rattle.meaning.specs.Substitute.{sub-turns, is-low, part-cost, path-from-args, path-cost, sub-args, sub-each, sub-cost, sub-each-cost, reads-low, reads-low-each};
+ghost use Rattle.meaning.specs.Substitute.{cons-pattern, sub-turns, is-low, part-cost, path-from-args, path-cost, sub-args, sub-each, sub-cost, sub-each-cost, reads-low, reads-low-each};
 ghost use Rattle.store.specs.Cells.{Room, bytesAt};
 ghost use Rattle.store.specs.Nodes.{treeAt};
 ghost use Rattle.store.specs.Store.{Ready};
 ghost use Rattle.store.specs.Makers.{MadeOk};
 ghost use Rattle.pattern.specs.Bound.{GotOk, Named};
-ghost use Rattle.patterns.specs.Patterns.{Patterned};
+ghost use Rattle.patterns.specs.Patterns.{Shows, Patterned};
 ghost use Rattle.meaning.proofs.Parts.{part-byte};
-ghost use Rattle.substitute.specs.Sub.{got-part, cons-part, list-tree, list-cost, list-low, SubOk, sub-made};
+ghost use Rattle.substitute.specs.Sub.{got-part, cons-part, head-tree, head-cost, head-low, list-tree, list-cost, list-low, SubOk, sub-made};
 
 // The node of the substituted tree, the charges after it, and whether a low atom was read.
 pub struct Substituted {
@@ -33,7 +33,7 @@ pub enum Sub {
     Refused(Refusal),
 }
 
-// ---- `cons_f` and `cons_r`
+// ---- `cons_f` and `cons_r`: cons is the node of `cons_pattern`
 
 // (o args)
 fn call_node(form: &[u8], room: &mut [u8], ch: Charges, o: u8, args: usize) -> Made
@@ -54,18 +54,18 @@ fn call_node(form: &[u8], room: &mut [u8], ch: Charges, o: u8, args: usize) -> M
 fn part_node(
     form: &[u8],
     room: &mut [u8],
-    p: Patterns,
+    cons: usize,
     ch: Charges,
     args: usize,
     right: bool,
 ) -> Got
-    requires { ⌜ Ready (now form) (now room) ch args × Patterned (now form) (now room) ch p ⌝ }
+    requires { ⌜ Ready (now form) (now room) ch args × Shows (now form) (now room) ch cons cons-pattern ⌝ }
     ensures { λ g. ⌜ GotOk (now (form .entry)) (now (room .entry)) (now (room .exit)) ch g (got-part right (treeAt (now (form .entry)) (now (room .entry)) args)) ⌝ }
 {
     if right {
-        pattern::got_node(form, room, ch, p.cons, args, b"rest")
+        pattern::got_node(form, room, ch, cons, args, b"rest")
     } else {
-        pattern::got_node(form, room, ch, p.cons, args, b"first")
+        pattern::got_node(form, room, ch, cons, args, b"first")
     }
 }
 
@@ -79,15 +79,15 @@ fn operator(right: bool) -> u8
 fn cons_node(
     form: &[u8],
     room: &mut [u8],
-    p: Patterns,
+    cons: usize,
     ch: Charges,
     args: usize,
     right: bool,
 ) -> Made
-    requires { ⌜ Ready (now form) (now room) ch args × Patterned (now form) (now room) ch p ⌝ }
+    requires { ⌜ Ready (now form) (now room) ch args × Shows (now form) (now room) ch cons cons-pattern ⌝ }
     ensures { λ a. ⌜ MadeOk (now (form .entry)) (now (room .entry)) (now (room .exit)) ch (part-cost (treeAt (now (form .entry)) (now (room .entry)) args)) (cons-part right (treeAt (now (form .entry)) (now (room .entry)) args)) a ⌝ }
 {
-    match part_node(form, room, p, ch, args, right) {
+    match part_node(form, room, cons, ch, args, right) {
         Got::At(n) => Made::Node(n, ch),
         Got::Nothing => call_node(form, room, ch, operator(right), args),
     }
@@ -115,12 +115,12 @@ fn turn_at<'a>(form: &'a [u8], room: &'a [u8], n: usize, i: usize) -> bool
 fn path_from_args(
     form: &[u8],
     room: &mut [u8],
-    p: Patterns,
+    cons: usize,
     ch: Charges,
     n: usize,
     args: usize,
 ) -> Made
-    requires { ⌜ Named (now form) (now room) ch n × Ready (now form) (now room) ch args × Patterned (now form) (now room) ch p ⌝ }
+    requires { ⌜ Named (now form) (now room) ch n × Ready (now form) (now room) ch args × Shows (now form) (now room) ch cons cons-pattern ⌝ }
     ensures { λ a. ⌜ MadeOk (now (form .entry)) (now (room .entry)) (now (room .exit)) ch (path-cost (sub-turns (bytesAt (now (form .entry)) (now (room .entry)) n)) (treeAt (now (form .entry)) (now (room .entry)) args)) (path-from-args (sub-turns (bytesAt (now (form .entry)) (now (room .entry)) n)) (treeAt (now (form .entry)) (now (room .entry)) args)) a ⌝ }
 {
     let count = count_turns(form, room, ch, n);
@@ -129,7 +129,7 @@ fn path_from_args(
     let mut i: usize = 0;
     while i < count {
         let right = turn_at(form, room, n, i);
-        match cons_node(form, room, p, c, a, right) {
+        match cons_node(form, room, cons, c, a, right) {
             Made::Refused(e) => {
                 return Made::Refused(e);
             }
@@ -173,30 +173,45 @@ fn low_node<'a>(form: &'a [u8], room: &'a [u8], n: usize) -> bool
 }
 
 // An atom of the body: read as a path.
-fn sub_atom(form: &[u8], room: &mut [u8], p: Patterns, ch: Charges, n: usize, args: usize) -> Sub
-    requires { ⌜ Named (now form) (now room) ch n × Ready (now form) (now room) ch args × Patterned (now form) (now room) ch p ⌝ }
+fn sub_atom(form: &[u8], room: &mut [u8], cons: usize, ch: Charges, n: usize, args: usize) -> Sub
+    requires { ⌜ Named (now form) (now room) ch n × Ready (now form) (now room) ch args × Shows (now form) (now room) ch cons cons-pattern ⌝ }
     ensures { λ r. ⌜ SubOk (now (form .entry)) (now (room .entry)) (now (room .exit)) ch (sub-cost (treeAt (now (form .entry)) (now (room .entry)) n) (treeAt (now (form .entry)) (now (room .entry)) args)) (sub-args (treeAt (now (form .entry)) (now (room .entry)) n) (treeAt (now (form .entry)) (now (room .entry)) args)) (reads-low (treeAt (now (form .entry)) (now (room .entry)) n)) r ⌝ }
 {
     let low = low_node(form, room, n);
-    made(low, path_from_args(form, room, p, ch, n, args))
+    made(low, path_from_args(form, room, cons, ch, n, args))
+}
+
+// The head of a list that is no quote: an atom stays, and is not read; a pair is worked as a body.
+fn sub_head(form: &[u8], room: &mut [u8], cons: usize, ch: Charges, f: usize, args: usize) -> Sub
+    requires { ⌜ Ready (now form) (now room) ch f × Ready (now form) (now room) ch args × Shows (now form) (now room) ch cons cons-pattern ⌝ }
+    ensures { λ r. ⌜ SubOk (now (form .entry)) (now (room .entry)) (now (room .exit)) ch (head-cost (treeAt (now (form .entry)) (now (room .entry)) f) (treeAt (now (form .entry)) (now (room .entry)) args)) (head-tree (treeAt (now (form .entry)) (now (room .entry)) f) (treeAt (now (form .entry)) (now (room .entry)) args)) (head-low (treeAt (now (form .entry)) (now (room .entry)) f)) r ⌝ }
+{
+    match store::look_node(room, f) {
+        Cell::Atom => Sub::Done(Substituted {
+            ch: ch,
+            low: false,
+            node: f,
+        }),
+        Cell::Pair(_, _) => sub_body(form, room, cons, ch, f, args),
+    }
 }
 
 // The list of first, whose work is done, and the operands in rest: an improper tail gives the new arguments.
 fn sub_list(
     form: &[u8],
     room: &mut [u8],
-    p: Patterns,
+    cons: usize,
     ch: Charges,
     first: usize,
     low: bool,
     rest: usize,
     args: usize,
 ) -> Sub
-    requires { ⌜ Ready (now form) (now room) ch first × Ready (now form) (now room) ch rest × Ready (now form) (now room) ch args × Patterned (now form) (now room) ch p ⌝ }
+    requires { ⌜ Ready (now form) (now room) ch first × Ready (now form) (now room) ch rest × Ready (now form) (now room) ch args × Shows (now form) (now room) ch cons cons-pattern ⌝ }
     ensures { λ r. ⌜ SubOk (now (form .entry)) (now (room .entry)) (now (room .exit)) ch (list-cost (treeAt (now (form .entry)) (now (room .entry)) rest) (treeAt (now (form .entry)) (now (room .entry)) args)) (list-tree (treeAt (now (form .entry)) (now (room .entry)) first) (treeAt (now (form .entry)) (now (room .entry)) rest) (treeAt (now (form .entry)) (now (room .entry)) args)) (list-low low (treeAt (now (form .entry)) (now (room .entry)) rest)) r ⌝ }
 {
     if sexp::proper_list_node(form, room, rest) {
-        match sub_each(form, room, p, ch, rest, args) {
+        match sub_each(form, room, cons, ch, rest, args) {
             Sub::Refused(e) => Sub::Refused(e),
             Sub::Done(t) => {
                 let c = t.ch;
@@ -214,8 +229,8 @@ fn sub_list(
 }
 
 // Each operand of the list.
-fn sub_each(form: &[u8], room: &mut [u8], p: Patterns, ch: Charges, list: usize, args: usize) -> Sub
-    requires { ⌜ Ready (now form) (now room) ch list × Ready (now form) (now room) ch args × Patterned (now form) (now room) ch p ⌝ }
+fn sub_each(form: &[u8], room: &mut [u8], cons: usize, ch: Charges, list: usize, args: usize) -> Sub
+    requires { ⌜ Ready (now form) (now room) ch list × Ready (now form) (now room) ch args × Shows (now form) (now room) ch cons cons-pattern ⌝ }
     ensures { λ r. ⌜ SubOk (now (form .entry)) (now (room .entry)) (now (room .exit)) ch (sub-each-cost (treeAt (now (form .entry)) (now (room .entry)) list) (treeAt (now (form .entry)) (now (room .entry)) args)) (sub-each (treeAt (now (form .entry)) (now (room .entry)) list) (treeAt (now (form .entry)) (now (room .entry)) args)) (reads-low-each (treeAt (now (form .entry)) (now (room .entry)) list)) r ⌝ }
 {
     match store::look_node(room, list) {
@@ -224,11 +239,11 @@ fn sub_each(form: &[u8], room: &mut [u8], p: Patterns, ch: Charges, list: usize,
             low: false,
             node: list,
         }),
-        Cell::Pair(l, r) => match sub_args(form, room, p, ch, l, args) {
+        Cell::Pair(l, r) => match sub_body(form, room, cons, ch, l, args) {
             Sub::Refused(e) => Sub::Refused(e),
             Sub::Done(x) => {
                 let c = x.ch;
-                match sub_each(form, room, p, c, r, args) {
+                match sub_each(form, room, cons, c, r, args) {
                     Sub::Refused(e) => Sub::Refused(e),
                     Sub::Done(y) => {
                         let d = y.ch;
@@ -238,6 +253,33 @@ fn sub_each(form: &[u8], room: &mut [u8], p: Patterns, ch: Charges, list: usize,
                 }
             }
         },
+    }
+}
+
+// `sub_args` by the node of the one pattern that it reads: it runs once for each level of the body, so its frame must be small.
+// A quote is tested first: what is left is then one call for the head and one for the list.
+fn sub_body(form: &[u8], room: &mut [u8], cons: usize, ch: Charges, body: usize, args: usize) -> Sub
+    requires { ⌜ Ready (now form) (now room) ch body × Ready (now form) (now room) ch args × Shows (now form) (now room) ch cons cons-pattern ⌝ }
+    ensures { λ r. ⌜ SubOk (now (form .entry)) (now (room .entry)) (now (room .exit)) ch (sub-cost (treeAt (now (form .entry)) (now (room .entry)) body) (treeAt (now (form .entry)) (now (room .entry)) args)) (sub-args (treeAt (now (form .entry)) (now (room .entry)) body) (treeAt (now (form .entry)) (now (room .entry)) args)) (reads-low (treeAt (now (form .entry)) (now (room .entry)) body)) r ⌝ }
+{
+    match store::look_node(room, body) {
+        Cell::Atom => sub_atom(form, room, cons, ch, body, args),
+        Cell::Pair(f, rest) => {
+            if sexp::is_byte_node(form, room, f, 1) {
+                return Sub::Done(Substituted {
+                    ch: ch,
+                    low: false,
+                    node: body,
+                });
+            }
+            match sub_head(form, room, cons, ch, f, args) {
+                Sub::Refused(e) => Sub::Refused(e),
+                Sub::Done(x) => {
+                    let c = x.ch;
+                    sub_list(form, room, cons, c, x.node, x.low, rest, args)
+                }
+            }
+        }
     }
 }
 
@@ -253,27 +295,5 @@ pub fn sub_args(
     requires { ⌜ Ready (now form) (now room) ch body × Ready (now form) (now room) ch args × Patterned (now form) (now room) ch p ⌝ }
     ensures { λ r. ⌜ SubOk (now (form .entry)) (now (room .entry)) (now (room .exit)) ch (sub-cost (treeAt (now (form .entry)) (now (room .entry)) body) (treeAt (now (form .entry)) (now (room .entry)) args)) (sub-args (treeAt (now (form .entry)) (now (room .entry)) body) (treeAt (now (form .entry)) (now (room .entry)) args)) (reads-low (treeAt (now (form .entry)) (now (room .entry)) body)) r ⌝ }
 {
-    match store::look_node(room, body) {
-        Cell::Atom => sub_atom(form, room, p, ch, body, args),
-        Cell::Pair(f, rest) => match store::look_node(room, f) {
-            Cell::Pair(_, _) => match sub_args(form, room, p, ch, f, args) {
-                Sub::Refused(e) => Sub::Refused(e),
-                Sub::Done(x) => {
-                    let c = x.ch;
-                    sub_list(form, room, p, c, x.node, x.low, rest, args)
-                }
-            },
-            Cell::Atom => {
-                if sexp::is_byte_node(form, room, f, 1) {
-                    Sub::Done(Substituted {
-                        ch: ch,
-                        low: false,
-                        node: body,
-                    })
-                } else {
-                    sub_list(form, room, p, ch, f, false, rest, args)
-                }
-            }
-        },
-    }
+    sub_body(form, room, p.cons, ch, body, args)
 }

@@ -1,67 +1,47 @@
-//! Prints forms of one family, a line of lower-case hex each.
+//! Prints forms of one family, a line of lower-case hex each, on request with a name in front.
 
-mod atoms;
-mod bytes;
-mod code;
-mod constants;
-mod damaged;
-mod deep;
-mod kept;
-mod large;
-mod limits;
-mod options;
-mod pairs_eval;
-mod pairs_match;
-mod random;
-mod repeats;
-mod rules;
-mod shared;
-mod sink;
-mod small;
-mod sound;
-mod tree;
-mod wide;
+use std::io::{self, BufWriter, Write};
 
-use options::Options;
-use sink::Sink;
+use generate::options::{Options, USAGE};
+use generate::sink::Sink;
 
 fn main() {
     let options = Options::read().unwrap_or_else(|problem| {
-        eprintln!("generate: {problem}\n{}", options::USAGE);
+        eprintln!("generate: {problem}\n{USAGE}");
         std::process::exit(2);
     });
-    let mut sink = Sink::new(options.names);
-    if !print(&options, &mut sink) {
-        eprintln!("generate: no family is called {}\n{}", options.family, options::USAGE);
+    let mut out = BufWriter::new(io::stdout().lock());
+    let known = generate::print(
+        &options,
+        &mut Sink::new(|name, forms| {
+            let text = forms.iter().map(|form| hex(form)).collect::<Vec<_>>().join(" ");
+            stop_on(if options.names { writeln!(out, "{name} {text}") } else { writeln!(out, "{text}") });
+        }),
+    );
+    if !known {
+        eprintln!("generate: no family is called {}\n{USAGE}", options.family);
         std::process::exit(2);
     }
-    sink.finish();
+    stop_on(out.flush());
 }
 
-fn print(options: &Options, sink: &mut Sink) -> bool {
-    match options.family.as_str() {
-        "bytes" => bytes::print(options, sink),
-        "small" => small::print(options, sink),
-        "code" => code::print(options, sink),
-        "kept" => kept::print(options, sink),
-        "damaged" => damaged::print(options, sink),
-        "deep" => deep::print(sink),
-        "limits" => limits::print(sink),
-        "repeats" => repeats::print(sink),
-        "wide" => wide::print(sink),
-        "large" => large::print(options, sink),
-        "shared" => shared::print(options, sink),
-        "rule-1" => rules::print(1, options, sink),
-        "rule-2" => rules::print(2, options, sink),
-        "rule-3" => rules::print(3, options, sink),
-        "rule-4" => rules::print(4, options, sink),
-        "rule-5" => rules::print(5, options, sink),
-        "rule-6" => rules::print(6, options, sink),
-        "rule-7" => rules::print(7, options, sink),
-        "rule-8" => rules::print(8, options, sink),
-        "pairs-match" => pairs_match::print(options, sink),
-        "pairs-eval" => pairs_eval::print(options, sink),
-        _ => return false,
+/// A reader that has seen enough closes the pipe: no error. Anything else is one.
+fn stop_on(done: io::Result<()>) {
+    if let Err(problem) = done {
+        if problem.kind() == io::ErrorKind::BrokenPipe {
+            std::process::exit(0);
+        }
+        eprintln!("generate: cannot write: {problem}");
+        std::process::exit(1);
     }
-    true
+}
+
+fn hex(bytes: &[u8]) -> String {
+    const DIGITS: &[u8; 16] = b"0123456789abcdef";
+    let mut text = String::with_capacity(bytes.len() * 2);
+    for b in bytes {
+        text.push(DIGITS[(b >> 4) as usize] as char);
+        text.push(DIGITS[(b & 15) as usize] as char);
+    }
+    text
 }

@@ -21,7 +21,10 @@ pub struct Options {
 
 impl Options {
     pub fn read() -> Result<Self, String> {
-        let mut words = std::env::args().skip(1);
+        Options::from(std::env::args().skip(1))
+    }
+
+    pub fn from(mut words: impl Iterator<Item = String>) -> Result<Self, String> {
         let family = words.next().ok_or("which family?")?;
         let mut options = Options { family, seed: 1, count: 1000, max: 3, leaves: 3, atoms: None, names: false };
         while let Some(word) = words.next() {

@@ -1,27 +1,11 @@
 //! The oracle: for each line of standard input one line of answer. README.md describes the modes.
 
-mod form;
-mod matcher;
-mod modes;
-mod runner;
-
 use std::io::{self, BufRead, BufReader, BufWriter, Write};
 use std::process::ExitCode;
 use std::thread;
 
-use clvm_rs::allocator::Allocator;
-use clvm_rs::run::Bounds;
-
-use modes::{answer, Mode};
-
-/// The stack is only touched as far as it is used.
-const STACK: usize = 1 << 30;
-/// Kept free for what does not look into the store.
-const STACK_SPARE: usize = 1 << 24;
-/// `tree` walks values that share parts as trees, and is stopped sooner.
-const TREE_WORK: u64 = 40_000_000;
-const WORK: u64 = 400_000_000;
-const NODES: usize = 2_000_000;
+use oracle::modes::{answer, Mode};
+use oracle::{store, STACK};
 
 const USAGE: &str = "Give one mode: tree, full, full --trace, full --rules, full --causes, match, eval, rule 1 to rule 8, or read.";
 
@@ -74,12 +58,7 @@ fn main() -> ExitCode {
 }
 
 fn run(mode: Mode) -> io::Result<ExitCode> {
-    let here = 0u8;
-    let mut store = Allocator::new(Bounds {
-        work: if mode == Mode::Tree { TREE_WORK } else { WORK },
-        nodes: NODES,
-        stack_floor: &here as *const u8 as usize - STACK + STACK_SPARE,
-    });
+    let mut store = store(mode == Mode::Tree);
     let mut input = BufReader::with_capacity(1 << 16, io::stdin());
     let mut output = BufWriter::with_capacity(1 << 16, io::stdout());
     let mut line = Vec::new();

@@ -118,25 +118,17 @@ fn work(
     let first = read(store, &forms[0])?;
     match mode {
         Mode::Tree => {
-            let runner = Rc::new(Runner);
-            let tree = text::classic::clvm_tools::stages::stage_2::optimize::optimize_sexp(
-                store, first, runner,
-            )?;
-            let Some(bytes) = write(store, tree, TREE_OUTPUT) else {
+            let Some(bytes) = write_published(store, first)? else {
                 clvm_rs::run::give_up();
             };
             out.push_str("ok ");
             put_hex(&bytes, out);
         }
         Mode::Full | Mode::FullTrace | Mode::FullRules | Mode::FullCauses => {
-            let runner = Rc::new(Runner);
-            let tree = text_patched::classic::clvm_tools::stages::stage_2::optimize::optimize_sexp(
-                store, first, runner,
-            )?;
+            let answer = optimised(store, first, OUTPUT)?;
             out.push_str("ok ");
-            put_tree(store, tree, out)?;
-            let run = &store.run;
-            write!(out, " {} {} {}", run.passes, run.units, run.mark() as u8).unwrap();
+            put_hex(&answer.tree, out);
+            write!(out, " {} {} {}", answer.passes, answer.units, answer.mark as u8).unwrap();
         }
         Mode::Match => {
             let tree = read(store, &forms[1])?;
@@ -196,6 +188,50 @@ fn work(
         }
     }
     Ok(())
+}
+
+/// A finished tree and what the run took.
+pub struct Answer {
+    pub tree: Vec<u8>,
+    pub passes: u64,
+    pub units: u64,
+    pub mark: bool,
+}
+
+/// The text with its charges and limits, on a tree that was read; refusal 14 beyond `most` bytes.
+fn optimised(store: &mut Allocator, tree: NodePtr, most: usize) -> Result<Answer, EvalErr> {
+    let tree = text_patched::classic::clvm_tools::stages::stage_2::optimize::optimize_sexp(
+        store,
+        tree,
+        Rc::new(Runner),
+    )?;
+    let tree = write(store, tree, most).ok_or(EvalErr::Refused(14))?;
+    let run = &store.run;
+    Ok(Answer { tree, passes: run.passes, units: run.units, mark: run.mark() })
+}
+
+/// The text as published, memo and all, on a tree that was read; nothing where the result is too long.
+fn write_published(store: &mut Allocator, tree: NodePtr) -> Result<Option<Vec<u8>>, EvalErr> {
+    let tree = text::classic::clvm_tools::stages::stage_2::optimize::optimize_sexp(
+        store,
+        tree,
+        Rc::new(Runner),
+    )?;
+    Ok(write(store, tree, TREE_OUTPUT))
+}
+
+/// A form, read and worked as in the mode `full`. It unwinds where the form is given up.
+pub fn full(store: &mut Allocator, form: &[u8], most: usize) -> Result<Answer, EvalErr> {
+    store.clear(true);
+    let tree = read(store, form)?;
+    optimised(store, tree, most)
+}
+
+/// A form, read and worked as in the mode `tree`.
+pub fn published(store: &mut Allocator, form: &[u8]) -> Result<Option<Vec<u8>>, EvalErr> {
+    store.clear(false);
+    let tree = read(store, form)?;
+    write_published(store, tree)
 }
 
 /// The tree in hex, or refusal 14.

@@ -9,6 +9,6 @@ optimize-node-spec =
     tie.close
     (tie.spec
     (λ c κs. search needs)  -- fresh-requires
-    (λ c κs. (search starting.start-fine, search needs))  -- drive-requires
+    (λ c κs. (search starting.start-fine, search needs, search starting.start-valid))  -- drive-requires
     (λ c. search needs)  -- same-length
     (λ c. search starting.started))  -- returns

@@ -6,10 +6,10 @@ use Rattle.substitute.proofs.path_from_args.Statement.{statement}
 use Rattle.substitute.proofs.path_from_args.Tie as tie
 
 abbrev Inv-loop : tie.InvT-loop
-Inv-loop form room₀ p n args count c₀ a₀ i₀ room c a i = turns.Walking form room₀ room c₀ c n args count a i
+Inv-loop form room₀ cons n args count c₀ a₀ i₀ room c a i = turns.Walking form room₀ room c₀ c n args count a i
 
 abbrev μ-loop : tie.MeasureT-loop
-μ-loop form room₀ p n args count c₀ a₀ i₀ room c a i = count - i
+μ-loop form room₀ cons n args count c₀ a₀ i₀ room c a i = count - i
 
 pub path-from-args-spec : {M : Type 1} → statement M
 path-from-args-spec =
@@ -20,7 +20,7 @@ path-from-args-spec =
     (λ c κs. search needs)  -- count-turns-requires
     (λ c. search turns.walk-starts)  -- loop-holds
     (λ c κs. (search turns.walk-room, search turns.walk-turn))  -- turn-at-requires
-    (λ c κs. (search turns.walk-ready, search turns.walk-patterned))  -- cons-node-requires
+    (λ c κs. (search turns.walk-ready, search turns.walk-shows))  -- cons-node-requires
     (λ c. search needs)  -- enum-known-e
     (λ c. search needs)  -- same-length
     (λ c. search turns.walk-stops)  -- returns

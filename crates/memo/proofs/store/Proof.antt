@@ -1,0 +1,18 @@
+-- store: one line a need; the laws are in Storing.
+use borrow.Author.Needs.{needs}
+use Rattle.memo.proofs.Storing as storing
+use Rattle.memo.proofs.store.Statement.{statement}
+use Rattle.memo.proofs.store.Tie as tie
+
+pub store-spec : {M : Type 1} → statement M
+store-spec =
+    tie.close
+    (tie.spec
+    (λ c. search storing.kept-so)  -- returns
+    (λ c. search storing.kept-so)  -- returns-2
+    (λ c. search storing.kept-so)  -- returns-3
+    (λ c κs. search storing.store-small)  -- entry-of-requires
+    (λ c. search needs)  -- mul-e
+    (λ c. search needs)  -- element-set-from-e
+    (λ c. search needs)  -- add-s
+    (λ c. search storing.kept-more))  -- returns-4

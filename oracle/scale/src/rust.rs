@@ -1,0 +1,124 @@
+//! The Rust's side: what the library is to return, report and write.
+
+use std::panic::{catch_unwind, resume_unwind, AssertUnwindSafe};
+
+use clvm_rs::allocator::{Allocator, NodePtr};
+use clvm_rs::error::EvalErr;
+use clvm_rs::run::{write, GaveUp};
+use oracle::form::read;
+use oracle::matcher::{matches, published_agrees, Matched};
+use oracle::modes::full;
+use oracle::runner::evaluate;
+
+use crate::Work;
+
+#[derive(PartialEq, Eq, Debug)]
+pub enum Want {
+    Answer { bytes: Vec<u8>, report: Vec<usize> },
+    Number(u8),
+    GaveUp,
+    /// The text complained of itself, or the two matchers disagree.
+    Broken(String),
+}
+
+/// The matcher's numbers beside the refusals'.
+const NO_MATCH: u8 = 15;
+const TOO_MANY_NAMES: u8 = 16;
+
+pub struct Rust {
+    store: Allocator,
+}
+
+impl Rust {
+    pub fn new() -> Self {
+        Rust { store: oracle::store(false) }
+    }
+
+    pub fn asked(&mut self, work: Work, forms: &[u8], most: usize) -> Want {
+        let store = &mut self.store;
+        let worked = catch_unwind(AssertUnwindSafe(|| match work {
+            Work::Optimise => optimised(store, forms, most),
+            Work::Evaluate { first } => evaluated(store, forms.split_at(first), most),
+            Work::Match { first } => matched(store, forms.split_at(first), most),
+            Work::Check => checked(store, forms),
+            Work::Write => written(store, forms, most),
+        }));
+        match worked {
+            Ok(Ok(want)) => want,
+            Ok(Err(EvalErr::Refused(number))) => Want::Number(number),
+            Ok(Err(EvalErr::InternalError(_, complaint))) => Want::Broken(complaint),
+            Err(thrown) if thrown.is::<GaveUp>() => Want::GaveUp,
+            Err(thrown) => resume_unwind(thrown),
+        }
+    }
+}
+
+impl Default for Rust {
+    fn default() -> Self {
+        Rust::new()
+    }
+}
+
+type Asked = Result<Want, EvalErr>;
+
+fn optimised(store: &mut Allocator, form: &[u8], most: usize) -> Asked {
+    let a = full(store, form, most)?;
+    let report = vec![a.tree.len(), a.passes as usize, a.units as usize, a.mark as usize];
+    Ok(Want::Answer { bytes: a.tree, report })
+}
+
+/// Two forms, on one budget.
+fn read_both(store: &mut Allocator, forms: (&[u8], &[u8])) -> Result<(NodePtr, NodePtr), EvalErr> {
+    store.clear(true);
+    let first = read(store, forms.0)?;
+    Ok((first, read(store, forms.1)?))
+}
+
+fn evaluated(store: &mut Allocator, forms: (&[u8], &[u8]), most: usize) -> Asked {
+    let (program, environment) = read_both(store, forms)?;
+    let (value, steps) = evaluate(store, program, environment)?;
+    let bytes = write(store, value, most).ok_or(EvalErr::Refused(14))?;
+    let report = vec![bytes.len(), steps as usize, store.run.units as usize];
+    Ok(Want::Answer { bytes, report })
+}
+
+fn matched(store: &mut Allocator, forms: (&[u8], &[u8]), most: usize) -> Asked {
+    let (pattern, expression) = read_both(store, forms)?;
+    let found = matches(store, pattern, expression, Vec::new());
+    if !published_agrees(store, pattern, expression, &found) {
+        return Ok(Want::Broken("the published matcher says otherwise".to_string()));
+    }
+    let bindings = match found {
+        Matched::No => return Ok(Want::Number(NO_MATCH)),
+        Matched::TooManyNames => return Ok(Want::Number(TOO_MANY_NAMES)),
+        Matched::Yes(bindings) => bindings,
+    };
+    let (mut bytes, mut report) = (Vec::new(), vec![bindings.len()]);
+    for (name, node) in bindings {
+        let name = store.free_atom(&name);
+        for part in [name, node] {
+            bytes.extend(write(store, part, most).ok_or(EvalErr::Refused(14))?);
+            report.push(bytes.len());
+        }
+    }
+    if bytes.len() > most {
+        return Err(EvalErr::Refused(14));
+    }
+    // A part that is not there has no bytes.
+    report.resize(5, bytes.len());
+    Ok(Want::Answer { bytes, report })
+}
+
+fn checked(store: &mut Allocator, form: &[u8]) -> Asked {
+    store.clear(true);
+    read(store, form)?;
+    Ok(Want::Answer { bytes: Vec::new(), report: vec![store.run.units as usize] })
+}
+
+fn written(store: &mut Allocator, form: &[u8], most: usize) -> Asked {
+    store.clear(true);
+    let tree = read(store, form)?;
+    let bytes = write(store, tree, most).ok_or(EvalErr::Refused(14))?;
+    let report = vec![bytes.len(), store.run.units as usize];
+    Ok(Want::Answer { bytes, report })
+}
