@@ -222,20 +222,20 @@ fn children(form: &[u8], room: &mut [u8], p: Patterns, st: State, n: usize, nest
     requires { ⌜ Fine (now form) (now room) (st .w) p n × (nest < 65) × Valid (now form) (now room) st ⌝ }
     ensures { λ q. ⌜ Did (now (form .entry)) (now (room .entry)) (now (room .exit)) (st .w) (treeAt (now (form .entry)) (now (room .entry)) n) (children-optimizer (again nest) (treeAt (now (form .entry)) (now (room .entry)) n) (spentOf (st .w))) (q .w) × Still (now (form .entry)) (now (room .exit)) q ⌝ }
 {
-    let mut s = st;
-    let c = s.w;
+    let c = st.w;
     if rules::is_quote_node(form, room, n) {
+        let mut s = st;
         let d = rules::with(c, Outcome::Same);
         s.w = d;
         return s;
     }
     if !sexp::proper_list_node(form, room, n) {
+        let mut s = st;
         let d = rules::with(c, Outcome::Same);
         s.w = d;
         return s;
     }
-    s = operands(form, room, p, s, n, nest, false, false);
-    return s;
+    operands(form, room, p, st, n, nest, false, false)
 }
 
 // ---- the rules that call the driver, by number
@@ -253,13 +253,10 @@ fn choice(
     requires { ⌜ Fine (now form) (now room) (st .w) p n × (nest < 65) × (3 < rule) × (rule < 6) × Valid (now form) (now room) st ⌝ }
     ensures { λ q. ⌜ Did (now (form .entry)) (now (room .entry)) (now (room .exit)) (st .w) (treeAt (now (form .entry)) (now (room .entry)) n) (optimizer (again nest) rule (treeAt (now (form .entry)) (now (room .entry)) n) (spentOf (st .w))) (q .w) × Still (now (form .entry)) (now (room .exit)) q ⌝ }
 {
-    let mut s = st;
     if rule == 4 {
-        s = var_change(form, room, p, s, n, nest);
-        return s;
+        return var_change(form, room, p, st, n, nest);
     }
-    s = children(form, room, p, s, n, nest);
-    return s;
+    children(form, room, p, st, n, nest)
 }
 
 // ---- the driver
