@@ -9,6 +9,7 @@ pub fn print(sink: &mut Sink) {
         let mut at = |name: &str, inner: Tree| sink.tree(&format!("{name}-{}", wrappers + 1), &tower(X, wrappers, inner));
         at("evaluation", tower(L, 1400, quote(byte(1))));
         at("evaluation-under-a", programs(600));
+        at("evaluation-without-end", apply(again(100), quote(again(100))));
         at("evaluation-fails", tower(F, 1400, nil()));
         at("constant-not", tower(L, 1400, byte(5)));
         at("constant-tail", op(C, &[vec![nil(); 1800], vec![byte(5)]].concat()));
@@ -27,6 +28,11 @@ pub fn print(sink: &mut Sink) {
 /// `(a (q . (a (q . ..) ())) ())`: programs in programs, under nil.
 fn programs(depth: usize) -> Tree {
     (0..depth).fold(quote(byte(5)), |inside, _| apply(inside, nil()))
+}
+
+/// `(l (l .. (a 1 1)))`: a program that, given itself, goes deeper with nearly every step, until no step is left.
+fn again(depth: usize) -> Tree {
+    tower(L, depth, op(A, &[byte(1), byte(1)]))
 }
 
 /// `((((x ()) ()) ()) ())`: lists in head place.
