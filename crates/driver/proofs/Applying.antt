@@ -2,7 +2,7 @@
 use mathlib.Core.Path.{_≡_, refl, sym, _∙_, ap, subst}
 use mathlib.Core.List.{List}
 use mathlib.Core.Bool.{true, false}
-use Prim.Native.Nat.{ℕ, _/_, _<_, _≤_}
+use Prim.Native.Nat.{ℕ}
 use native.Mathlib.Omega.{arith}
 use Rattle.refusals.specs.declared.Refusal.{Refusal}
 use Rattle.meaning.specs.Tree.{Tree, atom, pair}
@@ -19,9 +19,8 @@ use Rattle.patterns.specs.Patterns.{Patterned}
 use Rattle.rules.specs.declared.Outcome.the-variants.{Same, Changed, Stopped}
 use Rattle.rules.specs.declared.Work.{Work}
 use Rattle.rules.specs.Work.{spentOf, with-last, Did}
-use Rattle.driver_parts.specs.Turns.{again, optimizer, Fine, Simple, is-pair, Started, Ends-at, Passes-out, Begins, Begun, fresh-work}
+use Rattle.driver_parts.specs.Turns.{again, optimizer, Fine, is-pair, Started, Ends-at, Passes-out, Begins, Begun, fresh-work}
 use Rattle.driver_parts.proofs.Saying.{say-same, say-stopped, renamed, goes-on}
-use Rattle.driver_parts.proofs.Numbers.{any-driver}
 use Rattle.driver.specs.Alone.{one-rule}
 
 -- ---- the rule, by what it is called on
@@ -40,17 +39,6 @@ rule-pair : (k : ℕ) (t : Tree) (s x : Spent) → is-pair t ≡ true → one-pa
 unfolding is-pair one-rule
 rule-pair k (atom b) s x h e = not-false h
 rule-pair k (pair l r) s x h e = seq-at one-pass (optimizer (again 1) k (pair l r)) s x tt e
-
--- ---- rules that do not call the driver
-
-pub simple-number : (k : ℕ) → 0 < k → k ≤ 8 → (k / 2 ≡ 2 → ⊥) → Simple k
-simple-number k l m o = record { least = l; most = m; not-4 = λ e. o (omega arith); not-5 = λ e. o (omega arith) }
-
-pub call-least : (k : ℕ) → k / 2 ≡ 2 → 3 < k
-call-least k e = omega arith
-
-pub call-most : (k : ℕ) → k / 2 ≡ 2 → k < 6
-call-most k e = omega arith
 
 -- ---- each need: w is fresh, and b what the pass's start says
 
@@ -102,19 +90,8 @@ module _ (f s : List ℕ) (w b : Work) (n : ℕ) (h : Begun f s w n b) (c : Char
     pub applied-fine : (p : Patterns) → Ready f s c n → Patterned f s c p → Narrow (treeAt f s n) → Fine f s b p n
     applied-fine p r a t = record { ready = rw charges r; patterned = rw charges a; passes = omega (arith, one); narrow = t }
 
-    pub applied-patterned : (p : Patterns) → Patterned f s c p → Patterned f s (b .ch) p
-    applied-patterned p a = rw charges a
-
-    pub applied-node : Ready f s c n → Ready f s (b .ch) n
-    applied-node r = rw charges r
-
     pub applied-pair : (k : ℕ) (s′ : List ℕ) (q : Work) → Did f s s′ b (treeAt f s n) (optimizer (again 1) k (treeAt f s n) (spentOf b)) q → Ready f s c n
         → Did f s s′ (fresh-work c) (treeAt f s n) (one-rule k (treeAt f s n) (spentOf (fresh-work c))) q
     applied-pair k s′ q d r =
         renamed f s s′ (fresh-work c) q x _ _ (goes-on f s s s′ (fresh-work c) b q x _ (rw charges (grown-none f s c (r .held))) d)
         (sym (rule-pair k x (spentOf (fresh-work c)) (spentOf b) (pair-at i .pairs) pays))
-
-    pub applied-simple : (k : ℕ) (s′ : List ℕ) (q : Work) → Did f s s′ b (treeAt f s n) (optimizer give k (treeAt f s n) (spentOf b)) q → Ready f s c n → 0 < k → k ≤ 8 → (k / 2 ≡ 2 → ⊥)
-        → Did f s s′ (fresh-work c) (treeAt f s n) (one-rule k (treeAt f s n) (spentOf (fresh-work c))) q
-    applied-simple k s′ q d r l m o =
-        applied-pair k s′ q (renamed f s s′ b q x _ _ d (any-driver give (again 1) k x (spentOf b) (simple-number k l m o))) r

@@ -29,7 +29,7 @@ use Rattle.rules.proofs.Does.{says-same, says-changed}
 use Rattle.driver_parts.specs.Turns.{again, optimizer, Fine, kept, Started, Ends-at, Begins, Begun, outcome-of}
 use Rattle.driver_parts.specs.Walk.{wrap, Walks, Walked}
 use Rattle.driver_parts.proofs.Kept.{fine-fits}
-use Rattle.driver_parts.proofs.Numbers.{rule-marks, any-driver}
+use Rattle.driver_parts.proofs.Numbers.{rule-marks}
 use Rattle.driver_parts.proofs.Looping.{Looping, begin-atom, turn-ends}
 use Rattle.memo.specs.declared.Answer.{Answer}
 use Rattle.memo.specs.declared.Answer.the-variants.{Known}
@@ -84,13 +84,11 @@ module _ (f s t : List ℕ) (st : State) (q : Work) (v : Valid f s st) where
       go (Changed n) d = sounds-grown v (d .grown) (m (some (treeAt f t n)) (d .gives))
       go (Stopped r) d = tt
 
--- a rule that does not call the driver
-pub simple-still : (f s t : List ℕ) (st : State) (q : Work) (p : Patterns) (n rule : ℕ) → Did f s t (st .w) (treeAt f s n) (optimizer give rule (treeAt f s n) (spentOf (st .w))) q → 0 < rule → rule ≤ 8 → (rule ≡ 4 → ⊥) → (rule ≡ 5 → ⊥)
+-- a rule that did not call the driver, or any other: no mark is taken away
+pub rule-still : (f s t : List ℕ) (st : State) (q : Work) (p : Patterns) (nest n rule : ℕ) → Did f s t (st .w) (treeAt f s n) (optimizer (again nest) rule (treeAt f s n) (spentOf (st .w))) q
     → Fine f s (st .w) p n → Valid f s st → Still f t (record { w = q; used = st .used; memo = st .memo })
-simple-still f s t st q p n rule d l m n4 n5 h v =
-    by-did f s t st q v (treeAt f s n) _
-    (λ u e. rule-marks 0 rule (treeAt f s n) u (spentOf (st .w)) (spentOf q) (fine-fits f s (st .w) p n h)
-    (sym (any-driver give (optimize-sexp 0) rule (treeAt f s n) (spentOf (st .w)) (record { least = l; most = m; not-4 = n4; not-5 = n5 })) ∙ e)) d
+rule-still f s t st q p nest n rule d h v =
+    by-did f s t st q v (treeAt f s n) _ (λ u e. rule-marks (65 - (nest + 1)) rule (treeAt f s n) u (spentOf (st .w)) (spentOf q) (fine-fits f s (st .w) p n h) e) d
 
 -- rule 4's changed body is given back
 kept-marks : (low : Bool) (y u : Tree) (s x : Spent) → kept low y s ≡ done u x → Marked s x

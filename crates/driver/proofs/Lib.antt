@@ -1,5 +1,4 @@
 pub mod Applying
-pub mod Changing
 pub mod Keeping
+pub mod Rounds
 pub mod Starting
-mod Simple

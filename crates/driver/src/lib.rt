@@ -3,19 +3,17 @@ use memo::Answer;
 use memo::Entry;
 use memo::State;
 use patterns::Patterns;
+use planning::Plan;
 use refusals::Refusal;
-use rules::Applied;
 use rules::Outcome;
 use rules::Work;
 use store::Cell;
 use store::Charges;
-use substitute::Sub;
 ghost use mathlib.Core.Path.{_≡_};
 ghost use mathlib.Core.Bool.{true, false};
-ghost use Prim.Native.Nat.{_+_, _-_, _≤_, _<_};
+ghost use Prim.Native.Nat.{_-_, _≤_, _<_};
 ghost use lib.ListN.{length};
 ghost use Rattle.meaning.specs.Limits.{nesting-limit};
-ghost use Rattle.meaning.specs.Rules.{settle, var-change-optimizer-cons-eval, children-optimizer};
 ghost use Rattle.meaning.specs.Driver.{optimize-sexp};
 ghost use Rattle.meaning.proofs.Atoms.{Narrow};
 ghost use Rattle.store.specs.Nodes.{treeAt};
@@ -119,151 +117,11 @@ fn operands(
     }
 }
 
-// ---- 4. `var_change_optimizer_cons_eval`
-
-// What becomes of the changed body `new` of r.
-fn settle(
-    form: &[u8],
-    room: &mut [u8],
-    p: Patterns,
-    st: State,
-    r: usize,
-    new: usize,
-    low: bool,
-    nest: usize,
-) -> State
-    requires { ⌜ Fine (now form) (now room) (st .w) p r × Fine (now form) (now room) (st .w) p new × (nest < 65) × Valid (now form) (now room) st ⌝ }
-    ensures { λ q. ⌜ Did (now (form .entry)) (now (room .entry)) (now (room .exit)) (st .w) (treeAt (now (form .entry)) (now (room .entry)) r) (settle (again nest) (treeAt (now (form .entry)) (now (room .entry)) r) (treeAt (now (form .entry)) (now (room .entry)) new) low (spentOf (st .w))) (q .w) × Still (now (form .entry)) (now (room .exit)) q ⌝ }
-{
-    let mut s = st;
-    let c = s.w;
-    let ch = c.ch;
-    if seems::seems_constant(form, room, ch, new) {
-        s = drive(form, room, p, s, new, nest + 1);
-        let d = s.w;
-        let o = d.last;
-        match o {
-            Outcome::Stopped(_) => {
-                return s;
-            }
-            Outcome::Same => {
-                let e = driver_parts::keep(form, room, d, r, new, low);
-                s.w = e;
-                return s;
-            }
-            Outcome::Changed(m) => {
-                let e = driver_parts::keep(form, room, d, r, m, low);
-                s.w = e;
-                return s;
-            }
-        }
-    }
-    if !sexp::proper_list_node(form, room, new) {
-        let d = rules::with(c, Outcome::Same);
-        s.w = d;
-        return s;
-    }
-    s = operands(form, room, p, s, new, nest, true, false);
-    let d = s.w;
-    let o = d.last;
-    match o {
-        Outcome::Stopped(_) => {
-            return s;
-        }
-        Outcome::Same => {
-            return s;
-        }
-        Outcome::Changed(m) => {
-            let e = driver_parts::keep(form, room, d, r, m, low);
-            s.w = e;
-            return s;
-        }
-    }
-}
-
-fn var_change(form: &[u8], room: &mut [u8], p: Patterns, st: State, n: usize, nest: usize) -> State
-    requires { ⌜ Fine (now form) (now room) (st .w) p n × (nest < 65) × Valid (now form) (now room) st ⌝ }
-    ensures { λ q. ⌜ Did (now (form .entry)) (now (room .entry)) (now (room .exit)) (st .w) (treeAt (now (form .entry)) (now (room .entry)) n) (var-change-optimizer-cons-eval (again nest) (treeAt (now (form .entry)) (now (room .entry)) n) (spentOf (st .w))) (q .w) × Still (now (form .entry)) (now (room .exit)) q ⌝ }
-{
-    let mut s = st;
-    let c = s.w;
-    let ch = c.ch;
-    match rules::applied_of(form, room, p, ch, n) {
-        Applied::Other => {
-            let d = rules::with(c, Outcome::Same);
-            s.w = d;
-            return s;
-        }
-        Applied::Call(b, a) => match substitute::sub_args(form, room, p, ch, b, a) {
-            Sub::Refused(e) => {
-                let d = rules::with(c, Outcome::Stopped(e));
-                s.w = d;
-                return s;
-            }
-            Sub::Done(x) => {
-                let g = x.ch;
-                let d = Work {
-                    ch: g,
-                    passes: c.passes,
-                    mark: c.mark,
-                    last: Outcome::Same,
-                };
-                s.w = d;
-                s = settle(form, room, p, s, n, x.node, x.low, nest);
-                return s;
-            }
-        },
-    }
-}
-
-// ---- 5. `children_optimizer`
-
-fn children(form: &[u8], room: &mut [u8], p: Patterns, st: State, n: usize, nest: usize) -> State
-    requires { ⌜ Fine (now form) (now room) (st .w) p n × (nest < 65) × Valid (now form) (now room) st ⌝ }
-    ensures { λ q. ⌜ Did (now (form .entry)) (now (room .entry)) (now (room .exit)) (st .w) (treeAt (now (form .entry)) (now (room .entry)) n) (children-optimizer (again nest) (treeAt (now (form .entry)) (now (room .entry)) n) (spentOf (st .w))) (q .w) × Still (now (form .entry)) (now (room .exit)) q ⌝ }
-{
-    let c = st.w;
-    if rules::is_quote_node(form, room, n) {
-        let mut s = st;
-        let d = rules::with(c, Outcome::Same);
-        s.w = d;
-        return s;
-    }
-    if !sexp::proper_list_node(form, room, n) {
-        let mut s = st;
-        let d = rules::with(c, Outcome::Same);
-        s.w = d;
-        return s;
-    }
-    operands(form, room, p, st, n, nest, false, false)
-}
-
-// ---- the rules that call the driver, by number
-
-// Rule 4 or 5 of a pass.
-fn choice(
-    form: &[u8],
-    room: &mut [u8],
-    p: Patterns,
-    st: State,
-    n: usize,
-    nest: usize,
-    rule: usize,
-) -> State
-    requires { ⌜ Fine (now form) (now room) (st .w) p n × (nest < 65) × (3 < rule) × (rule < 6) × Valid (now form) (now room) st ⌝ }
-    ensures { λ q. ⌜ Did (now (form .entry)) (now (room .entry)) (now (room .exit)) (st .w) (treeAt (now (form .entry)) (now (room .entry)) n) (optimizer (again nest) rule (treeAt (now (form .entry)) (now (room .entry)) n) (spentOf (st .w))) (q .w) × Still (now (form .entry)) (now (room .exit)) q ⌝ }
-{
-    if rule == 4 {
-        return var_change(form, room, p, st, n, nest);
-    }
-    children(form, room, p, st, n, nest)
-}
-
 // ---- the driver
 
 // `optimize_sexp_` at nesting `nest`: what the memo says; else turns over a node until no rule ends a pass, and then an entry. Same where
-// no rule ended one. `left` rules are left in a turn; where none is, a turn begins. Rules 4 and 5, where 5 and 4 are left, get the state;
-// the others need what is spent alone, so that 3 kB of memo are not copied for them.
+// no rule ended one. `left` rules are left in a turn; where none is, a turn begins. A rule that was `worked` is seen to at the loop's head.
+// Only this function and `operands` hold the memo: what is done before and after their calls needs what is spent alone.
 pub fn drive(form: &[u8], room: &mut [u8], p: Patterns, st: State, n: usize, nest: usize) -> State
     requires { ⌜ Fine (now form) (now room) (st .w) p n × (nest < 66) × Valid (now form) (now room) st ⌝ }
     ensures { λ q. ⌜ Did (now (form .entry)) (now (room .entry)) (now (room .exit)) (st .w) (treeAt (now (form .entry)) (now (room .entry)) n) (optimize-sexp (65 - nest) (treeAt (now (form .entry)) (now (room .entry)) n) (spentOf (st .w))) (q .w) × Still (now (form .entry)) (now (room .exit)) q ⌝ }
@@ -287,28 +145,10 @@ pub fn drive(form: &[u8], room: &mut [u8], p: Patterns, st: State, n: usize, nes
     let mut r = n;
     let mut left: usize = 0;
     let mut moved = false;
+    let mut worked = false;
     loop {
-        if left / 2 == 2 {
-            s = choice(form, room, p, s, r, nest, 9 - left);
+        if worked {
             let e = s.w;
-            let o = e.last;
-            match o {
-                Outcome::Stopped(_) => {
-                    return s;
-                }
-                Outcome::Same => {
-                    left -= 1;
-                }
-                Outcome::Changed(m) => {
-                    r = m;
-                    left = 0;
-                    moved = true;
-                }
-            }
-        } else if 0 < left {
-            let w = s.w;
-            let e = driver_parts::simple(form, room, p, w, r, 9 - left);
-            s.w = e;
             let o = e.last;
             match o {
                 Outcome::Stopped(_) => {
@@ -322,11 +162,43 @@ pub fn drive(form: &[u8], room: &mut [u8], p: Patterns, st: State, n: usize, nes
                         return s;
                     }
                     left -= 1;
+                    worked = false;
                 }
                 Outcome::Changed(m) => {
                     r = m;
                     left = 0;
                     moved = true;
+                    worked = false;
+                }
+            }
+        } else if 0 < left {
+            let w = s.w;
+            match planning::start_rule(form, room, p, w, r, 9 - left) {
+                Plan::Worked(d) => {
+                    s.w = d;
+                    worked = true;
+                }
+                Plan::Constant(b) => {
+                    let d = b.w;
+                    s.w = d;
+                    s = drive(form, room, p, s, b.node, nest + 1);
+                    let e = s.w;
+                    let g = planning::keep_body(form, room, e, r, b.node, b.low);
+                    s.w = g;
+                    worked = true;
+                }
+                Plan::Listed(b) => {
+                    let d = b.w;
+                    s.w = d;
+                    s = operands(form, room, p, s, b.node, nest, true, false);
+                    let e = s.w;
+                    let g = planning::keep_list(form, room, e, r, b.low);
+                    s.w = g;
+                    worked = true;
+                }
+                Plan::Elements => {
+                    s = operands(form, room, p, s, r, nest, false, false);
+                    worked = true;
                 }
             }
         } else {
@@ -388,6 +260,36 @@ pub fn optimize_node(form: &[u8], room: &mut [u8], p: Patterns, ch: Charges, n: 
     r.w
 }
 
+// One rule of this number at nesting 1, with the driver below it.
+fn one_rule(form: &[u8], room: &mut [u8], p: Patterns, st: State, n: usize, rule: usize) -> Work
+    requires { ⌜ Fine (now form) (now room) (st .w) p n × (0 < rule) × (rule ≤ 8) × Valid (now form) (now room) st ⌝ }
+    ensures { λ q. ⌜ Did (now (form .entry)) (now (room .entry)) (now (room .exit)) (st .w) (treeAt (now (form .entry)) (now (room .entry)) n) (optimizer (again 1) rule (treeAt (now (form .entry)) (now (room .entry)) n) (spentOf (st .w))) q ⌝ }
+{
+    let mut s = st;
+    let w = s.w;
+    match planning::start_rule(form, room, p, w, n, rule) {
+        Plan::Worked(d) => d,
+        Plan::Constant(b) => {
+            let d = b.w;
+            s.w = d;
+            s = drive(form, room, p, s, b.node, 2);
+            let e = s.w;
+            planning::keep_body(form, room, e, n, b.node, b.low)
+        }
+        Plan::Listed(b) => {
+            let d = b.w;
+            s.w = d;
+            s = operands(form, room, p, s, b.node, 1, true, false);
+            let e = s.w;
+            planning::keep_list(form, room, e, n, b.low)
+        }
+        Plan::Elements => {
+            s = operands(form, room, p, s, n, 1, false, false);
+            s.w
+        }
+    }
+}
+
 // One rule alone, by its number, at nesting 1 in a first pass.
 pub fn apply_node(
     form: &[u8],
@@ -408,12 +310,8 @@ pub fn apply_node(
         Outcome::Changed(_) => rules::with(b, Outcome::Same),
         Outcome::Stopped(_) => b,
         Outcome::Same => {
-            if rule / 2 == 2 {
-                s.w = b;
-                let r = choice(form, room, p, s, n, 1, rule);
-                return r.w;
-            }
-            driver_parts::simple(form, room, p, b, n, rule)
+            s.w = b;
+            one_rule(form, room, p, s, n, rule)
         }
     }
 }

@@ -1,15 +1,15 @@
-//! Work that goes deep in the store, alone and inside 31 and 62 wrappers `(x ..)`, which put it at nesting 1, 32 and 63 of the driver:
+//! Work that goes deep in the store, alone and inside 31, 62 and 63 wrappers `(x ..)`, which put it at nesting 1, 32, 63 and 64 of the driver:
 //! what the stack is measured with. Some of it is refused there (13), but only after it went deep.
 
 use crate::sink::Sink;
 use crate::tree::*;
 
 pub fn print(sink: &mut Sink) {
-    for wrappers in [0, 31, 62] {
+    for wrappers in [0, 31, 62, 63] {
         let mut at = |name: &str, inner: Tree| sink.tree(&format!("{name}-{}", wrappers + 1), &tower(X, wrappers, inner));
         at("evaluation", tower(L, 1400, quote(byte(1))));
         at("evaluation-under-a", programs(600));
-        at("evaluation-without-end", apply(again(100), quote(again(100))));
+        at("evaluation-without-end", apply(again(0), quote(again(1000))));
         at("evaluation-fails", tower(F, 1400, nil()));
         at("constant-not", tower(L, 1400, byte(5)));
         at("constant-tail", op(C, &[vec![nil(); 1800], vec![byte(5)]].concat()));

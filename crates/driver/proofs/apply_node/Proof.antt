@@ -15,13 +15,10 @@ apply-node-spec =
     (λ c κs. search needs)  -- with-requires
     (λ c. search needs)  -- enum-told-2
     (λ c. search needs)  -- enum-told-3
-    (λ c κs. (search applying.applied-fine, search needs, search applying.call-least, search applying.call-most, search starting.start-valid))  -- choice-requires
+    (λ c κs. (search applying.applied-fine, search needs, search needs, search starting.start-valid))  -- one-rule-requires
     (λ c. search needs)  -- same-length
-    (λ c. search applying.applied-pair)  -- returns
-    (λ c κs. (search applying.applied-node, search applying.applied-patterned, search needs, search applying.simple-number))  -- simple-requires
+    (λ c. search applying.applied-atom)  -- returns
     (λ c. search needs)  -- same-length-2
-    (λ c. search applying.applied-atom)  -- returns-2
+    (λ c. search applying.applied-stopped)  -- returns-2
     (λ c. search needs)  -- same-length-3
-    (λ c. search applying.applied-stopped)  -- returns-3
-    (λ c. search needs)  -- same-length-4
-    (λ c. search applying.applied-simple))  -- returns-4
+    (λ c. search applying.applied-pair))  -- returns-3
