@@ -18,7 +18,7 @@ use Rattle.meaning.proofs.MemoMark.{Marked, still-marked}
 use Rattle.meaning.proofs.Operands.{before, join, ending}
 use Rattle.store.specs.declared.Charges.{Charges}
 use Rattle.store.specs.Nodes.{treeAt}
-use Rattle.store.specs.Makers.{Grown, Answered}
+use Rattle.store.specs.Makers.{Grown}
 use Rattle.store.proofs.Ready.{grown-none, grown-ready, grown-tree}
 use Rattle.patterns.specs.declared.Patterns.{Patterns}
 use Rattle.rules.specs.declared.Outcome.{Outcome}
@@ -50,18 +50,6 @@ module _ (f s : List ℕ) (st : State) (q : Work) where
 
   valid-with : (o : Outcome) → q ≡ with-last (st .w) o → Valid f s st → Valid f s (with-work st q)
   valid-with o e v = rw e v
-
-  pub said : (o : Outcome) → q ≡ with-last (st .w) o → Valid f s st → Still f s (record { w = q; used = st .used; memo = st .memo })
-  said o e v = valid-still f s (with-work st q) (valid-with o e v)
-
-pub valid-grown : (f s t : List ℕ) (st : State) → Grown f s t (st .w .ch) (st .w .ch) → Valid f s st → Valid f t st
-valid-grown f s t st g v = sounds-grown v g (λ e. e)
-
-pub valid-answered : (f s t : List ℕ) (st : State) (a b : Bool) → Answered f s t (st .w .ch) a b → Valid f s st → Valid f t st
-valid-answered f s t st a b d v = valid-grown f s t st (d .grown) v
-
-pub said-grown : (f s t : List ℕ) (st : State) (q : Work) → Grown f s t (st .w .ch) (st .w .ch) → q ≡ with-last (st .w) Same → Valid f s st → Still f t (record { w = q; used = st .used; memo = st .memo })
-said-grown f s t st q g e v = said f t st q Same e (valid-grown f s t st g v)
 
 -- ---- work was done
 

@@ -12,10 +12,9 @@ use Rattle.meaning.specs.Meter.{W, Out, done, Spent}
 use Rattle.meaning.specs.Constant.{seems-constant}
 use Rattle.meaning.specs.Rules.{settle}
 use Rattle.meaning.specs.Driver.{optimize-sexp}
-use Rattle.store.specs.declared.Charges.{Charges}
 use Rattle.store.specs.Nodes.{treeAt}
 use Rattle.store.specs.Store.{Ready}
-use Rattle.store.specs.Makers.{Grown, Answered}
+use Rattle.store.specs.Makers.{Answered}
 use Rattle.store.proofs.Ready.{small, grown-none, grown-tree}
 use Rattle.patterns.specs.declared.Patterns.{Patterns}
 use Rattle.rules.specs.declared.Outcome.{Outcome}
@@ -242,9 +241,6 @@ module _ (f : List ℕ) (p : Patterns) (nest : ℕ) (room₀ : List ℕ) (w₀ :
     head-stop u i = let k = ruled .0 in looping.turn-stop f p nest room₀ w₀ n (k .room-before) (k .before) r left moved (k .held) room (st .w) (k .did) (k .some) u i
 
     module _ (i : st .w .last ≡ Same) where
-      pub head-left : 1 ≤ left
-      head-left = omega (arith, ruled .0 .some)
-
       module _ (q : Work) (eq : q ≡ with-last (st .w) (outcome-of moved r)) (o : left ≤ 1) where
         pub end-valid : Valid f room (record { w = q; used = st .used; memo = st .memo })
         end-valid = turn-valid f room st q (outcome-of moved r) eq i (ruled .1)
@@ -287,15 +283,6 @@ module _ (f : List ℕ) (p : Patterns) (nest : ℕ) (room₀ : List ℕ) (w₀ :
     idle : Looping f p nest room₀ w₀ n room (st .w) r left moved × Valid f room st × Own n r moved
     unfolding Heading
     idle = subst (Heading f p nest room₀ w₀ n room st r left moved) e h
-
-    pub idle-loop : Looping f p nest room₀ w₀ n room (st .w) r left moved
-    idle-loop = idle .0
-
-    pub idle-valid : Valid f room st
-    idle-valid = idle .1
-
-    pub idle-own : Own n r moved
-    idle-own = idle .2
 
     pub idle-fine : Fine f room (st .w) p r
     idle-fine = idle .0 .fine

@@ -5,39 +5,22 @@ use mathlib.Core.Bool.{Bool, true, false, not}
 use Prim.Native.Nat.{ℕ}
 use Rattle.meaning.specs.Tree.{Tree, is-quote}
 use Rattle.meaning.specs.Substitute.{is-proper}
-use Rattle.meaning.specs.Rules.{children-optimizer, var-change-optimizer-cons-eval}
-use Rattle.meaning.specs.Driver.{optimizers}
+use Rattle.meaning.specs.Rules.{children-optimizer}
 use Rattle.meaning.proofs.OperandsOutcomes as walks
 use Rattle.store.specs.Nodes.{treeAt}
-use Rattle.store.specs.Makers.{Grown}
-use Rattle.store.proofs.Ready.{grown-none}
 use Rattle.patterns.specs.declared.Patterns.{Patterns}
 use Rattle.rules.specs.declared.Outcome.{Outcome}
 use Rattle.rules.specs.declared.Outcome.the-variants.{Same, Changed, Stopped}
 use Rattle.rules.specs.declared.Work.{Work}
-use Rattle.rules.specs.Work.{spentOf, with-last, Did}
-use Rattle.rules.proofs.Does.{did-same}
-use Rattle.driver_parts.specs.Turns.{again, optimizer, Fine}
+use Rattle.rules.specs.Work.{spentOf, Did}
+use Rattle.driver_parts.specs.Turns.{again, Fine}
 use Rattle.driver_parts.specs.Walk.{walk, Walked}
 use Rattle.driver_parts.proofs.Saying.{say-same, say-changed, say-stopped, walked-none, walked-made, walked-stopped}
-use Rattle.driver_parts.proofs.Settling.{not-yes, not-no}
+use Rattle.driver_parts.proofs.Settling.{not-no}
 
 module _ (f : List ℕ) (p : Patterns) (nest : ℕ) (room : List ℕ) (w : Work) (n : ℕ) (h : Fine f room w p n) where
   abbrev x : Tree
   x = treeAt f room n
-
-  unmoved : Grown f room room (w .ch) (w .ch)
-  unmoved = grown-none f room (w .ch) (h .ready .held)
-
-  -- ---- children
-
-  pub children-quote : (q : Work) (v : Bool) → q ≡ with-last w Same → v ≡ is-quote (treeAt f room n) → v ≡ true
-      → Did f room room w (treeAt f room n) (children-optimizer (again nest) (treeAt f room n) (spentOf w)) q
-  children-quote q v eq ev pv = did-same f room room w q _ _ eq unmoved (walks.children-of-quote (again nest) x (sym ev ∙ pv) (spentOf w))
-
-  pub children-improper : (q : Work) (v : Bool) → q ≡ with-last w Same → v ≡ is-proper (treeAt f room n) → not v ≡ true
-      → Did f room room w (treeAt f room n) (children-optimizer (again nest) (treeAt f room n) (spentOf w)) q
-  children-improper q v eq ev pv = did-same f room room w q _ _ eq unmoved (walks.children-of-improper (again nest) x (sym ev ∙ not-yes v pv) (spentOf w))
 
   pub children-walked : (r₁ : List ℕ) (w₁ : Work) (u v : Bool) → Walked f room r₁ w (walk false (again nest) false (treeAt f room n) (spentOf w)) w₁
       → u ≡ is-quote (treeAt f room n) → u ≡ false → v ≡ is-proper (treeAt f room n) → not v ≡ false
@@ -62,15 +45,3 @@ module _ (f : List ℕ) (p : Patterns) (nest : ℕ) (room : List ℕ) (w : Work)
       go (Stopped n) e =
           let s = walked-stopped f room r₁ w w₁ _ n d e in
           say-stopped f room r₁ w w₁ _ _ n (s .after) e (walks.children-stop (again nest) x no-quote properly (spentOf w) (s .after) n (s .stops))
-
-  -- ---- choice
-
-  pub choice-4 : (r₁ : List ℕ) (w₁ : Work) (rule : ℕ) → Did f room r₁ w (treeAt f room n) (var-change-optimizer-cons-eval (again nest) (treeAt f room n) (spentOf w)) w₁ → rule ≡ 4
-      → Did f room r₁ w (treeAt f room n) (optimizer (again nest) rule (treeAt f room n) (spentOf w)) w₁
-  unfolding optimizer optimizers
-  choice-4 r₁ w₁ rule d e = rw e d
-
-  pub choice-5 : (r₁ : List ℕ) (w₁ : Work) (rule : ℕ) → Did f room r₁ w (treeAt f room n) (children-optimizer (again nest) (treeAt f room n) (spentOf w)) w₁ → rule ≡ 5
-      → Did f room r₁ w (treeAt f room n) (optimizer (again nest) rule (treeAt f room n) (spentOf w)) w₁
-  unfolding optimizer optimizers
-  choice-5 r₁ w₁ rule d e = rw e d

@@ -19,7 +19,7 @@ use Rattle.meaning.specs.Driver.{optimize-sexp}
 use Rattle.meaning.proofs.Atoms.{Narrow}
 use Rattle.meaning.proofs.SameLaws.{equal-to-same}
 use Rattle.meaning.proofs.CostDriver.{driver-fits}
-use Rattle.meaning.proofs.Operands.{work, join, ending, as-wanted}
+use Rattle.meaning.proofs.Operands.{join, ending, as-wanted}
 use Rattle.meaning.proofs.OperandsSteps.{work-end, work-on, work-stops}
 use Rattle.meaning.proofs.OperandsOutcomes.{works-atom, too-deep}
 use Rattle.store.specs.declared.Cell.{Cell}

@@ -1,8 +1,7 @@
 -- What a function of the driver asks is kept as the store grows. Assumes nothing.
 use mathlib.Core.List.{List}
-use mathlib.Core.Path.{_≡_, sym, subst}
-use Prim.Native.Nat.{ℕ, _+_, _-_, _*_, _<_, _≤_}
-use native.Mathlib.Omega.{arith}
+use mathlib.Core.Path.{sym, subst}
+use Prim.Native.Nat.{ℕ, _-_, _≤_}
 use Rattle.meaning.specs.Tree.{Tree, pair}
 use Rattle.meaning.specs.Limits.{pass-limit}
 use Rattle.meaning.proofs.Atoms.{Narrow}
@@ -11,7 +10,7 @@ use Rattle.store.specs.Cells.{Room}
 use Rattle.store.specs.Nodes.{treeAt}
 use Rattle.store.specs.Store.{Ready}
 use Rattle.store.specs.Makers.{Grown}
-use Rattle.store.proofs.Ready.{room, small, grown-ready, grown-tree}
+use Rattle.store.proofs.Ready.{room, grown-ready, grown-tree}
 use Rattle.patterns.specs.declared.Patterns.{Patterns}
 use Rattle.patterns.proofs.Laws.{patterned-grown}
 use Rattle.rules.specs.declared.Work.{Work}
@@ -37,7 +36,3 @@ fine-room f s w p n h = room f s (w .ch) n (h .ready)
 
 pub fine-fits : (f s : List ℕ) (w : Work) (p : Patterns) (n : ℕ) → Fine f s w p n → Fits (spentOf w)
 fine-fits f s w p n h = (h .ready .held .units, h .passes)
-
--- the cycle's measure: a list's node is below any function's rank
-pub fine-down : (f s : List ℕ) (w : Work) (p : Patterns) (n nest t : ℕ) → Fine f s w p n → (66 - nest) * 70_000 + 65_536 ≡ t → (66 - nest) * 70_000 + n < t
-fine-down f s w p n nest t h e = omega (arith, small f s (w .ch) n (h .ready))

@@ -4,7 +4,6 @@ use mathlib.Core.List.{List, _∷_}
 use mathlib.Core.Bool.{Bool, true, false}
 use Prim.Native.Nat.{ℕ, suc, _+_, _-_, _*_, _<_, _≤_}
 use native.Mathlib.Omega.{arith}
-use lib.ListN.{length}
 use lib.Dec.{leb}
 use Rattle.refusals.specs.declared.Refusal.{Refusal}
 use Rattle.refusals.specs.declared.Refusal.the-variants.{TooDeep}
@@ -22,7 +21,6 @@ use Rattle.meaning.proofs.OperandsOutcomes.{works-atom, too-deep}
 use Rattle.meaning.proofs.MeterLaws.{not-stop}
 use Rattle.store.specs.declared.Charges.{Charges}
 use Rattle.store.specs.Nodes.{treeAt}
-use Rattle.store.specs.Store.{Ready}
 use Rattle.store.specs.Makers.{Grown}
 use Rattle.store.proofs.Ready.{grown-none, grown-both, grown-ready, grown-tree}
 use Rattle.patterns.specs.declared.Patterns.{Patterns}
@@ -178,24 +176,6 @@ module _ (f : List ℕ) (p : Patterns) (nest : ℕ) (room₀ : List ℕ) (w₀ :
   abbrev x : Tree
   x = treeAt f room r
 
-  pub turn-ready : Ready f room (w .ch) r
-  turn-ready = i .fine .ready
-
-  pub turn-fine : Fine f room w p r
-  turn-fine = i .fine
-
-  pub turn-nest : nest < 65
-  turn-nest = i .nests
-
-  pub turn-few : left ≤ 9
-  turn-few = omega (arith, i .few)
-
-  pub turn-len : (r₁ : List ℕ) → length r₁ ≡ length room → length r₁ ≡ length room₀
-  turn-len r₁ e = e ∙ i .grown .long
-
-  pub turn-long : length room ≡ length room₀
-  turn-long = i .grown .long
-
   pub turn-least : 0 < 9 - left
   turn-least = omega (arith, i .few)
 
@@ -311,9 +291,6 @@ module _ (f : List ℕ) (p : Patterns) (nest : ℕ) (room₀ : List ℕ) (w₀ :
           ∙ call-same (65 - (nest + 1)) (t .entry) (t .from) (t .pays) x (t .pairs) (spentOf w₁)
           (next ∙ rest-ends nest (9 - left) x (spentOf w) (spentOf w₁) turn-least (turn-most l) (omega arith))) eq
 
-      pub turn-next-less : 1 < left → (pass-limit - w₁ .passes) * 9 + (left - 1) < (pass-limit - w .passes) * 9 + left
-      turn-next-less o = omega (arith, later x (stay .gives) .0)
-
       pub turn-next : 1 < left → Looping f p nest room₀ w₀ n r₁ w₁ r (left - 1) moved
       turn-next o =
           let k : treeAt f r₁ r ≡ treeAt f room r = grown-tree (stay .grown) (i .fine .ready) in
@@ -361,9 +338,6 @@ module _ (f : List ℕ) (p : Patterns) (nest : ℕ) (room₀ : List ℕ) (w₀ :
               other = new .differs;
             });
       }
-
-      pub turn-changed-less : (pass-limit - w₁ .passes) * 9 + 0 < (pass-limit - w .passes) * 9 + left
-      turn-changed-less = omega (arith, later (treeAt f r₁ m) (new .gives) .0)
 
       pub turn-changed : Looping f p nest room₀ w₀ n r₁ w₁ m 0 true
       turn-changed = record {

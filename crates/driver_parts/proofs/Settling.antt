@@ -3,7 +3,7 @@ use mathlib.Core.Path.{_≡_, refl, sym, _∙_, ap}
 use mathlib.Core.List.{List}
 use mathlib.Core.Bool.{Bool, true, false, not}
 use mathlib.Core.Option.{Option}
-use Prim.Native.Nat.{ℕ, _+_, _-_, _*_, _<_}
+use Prim.Native.Nat.{ℕ, _+_, _-_}
 use Rattle.refusals.specs.declared.Refusal.{Refusal}
 use Rattle.meaning.specs.Tree.{Tree}
 use Rattle.meaning.specs.Meter.{Out, Spent, _>>=_}
@@ -24,12 +24,11 @@ use Rattle.store.proofs.Ready.{grown-both, grown-ready, grown-tree}
 use Rattle.patterns.specs.declared.Patterns.{Patterns}
 use Rattle.rules.specs.declared.Outcome.the-variants.{Same, Changed, Stopped}
 use Rattle.rules.specs.declared.Work.{Work}
-use Rattle.rules.specs.Work.{spentOf, with-last, Same-as, Changed-to, Did}
-use Rattle.rules.proofs.Does.{did-same, says-same, says-changed, says-stopped}
+use Rattle.rules.specs.Work.{spentOf, Same-as, Changed-to, Did}
+use Rattle.rules.proofs.Does.{says-same, says-changed, says-stopped}
 use Rattle.driver_parts.specs.Turns.{again, Fine, kept}
 use Rattle.driver_parts.specs.Walk.{walk, Made-at, Walked}
 use Rattle.driver_parts.proofs.Saying.{say-same, say-stopped, renamed, goes-on, walked-none, walked-made, walked-stopped}
-use Rattle.driver_parts.proofs.Kept.{fine-same, fine-down}
 
 pub not-yes : (b : Bool) → not b ≡ true → b ≡ false
 not-yes true h = not-false h
@@ -53,14 +52,8 @@ module _ (f : List ℕ) (p : Patterns) (room : List ℕ) (w : Work) (r new : ℕ
   new-tree : treeAt f r₁ new ≡ y
   new-tree = grown-tree (a .grown) (hn .ready)
 
-  pub settle-fine : Fine f r₁ w p new
-  settle-fine = fine-same f room r₁ w w p new hn (a .grown) (hn .passes)
-
   pub settle-room : Room r₁ new
   settle-room = ready.room f r₁ (w .ch) new (grown-ready (a .grown) (hn .ready))
-
-  pub settle-down : (nest t : ℕ) → (66 - nest) * 70_000 + 65_536 ≡ t → (66 - nest) * 70_000 + new < t
-  settle-down nest t e = fine-down f r₁ w p new nest t settle-fine e
 
   -- the body z, which now stands for t, is kept
   keeps : (nest : ℕ) (low : Bool) (r₂ r₃ : List ℕ) (w₂ w₃ : Work) (z : ℕ) (t : Tree) → Grown f r₁ r₂ (w .ch) (w₂ .ch) → treeAt f r₂ z ≡ t → def nest low ≡ kept low t (spentOf w₂)
@@ -122,10 +115,6 @@ module _ (f : List ℕ) (p : Patterns) (room : List ℕ) (w : Work) (r new : ℕ
 
     properly : is-proper y ≡ v
     properly = ap is-proper (sym new-tree) ∙ sym ev
-
-    pub improper : (low : Bool) (q : Work) → q ≡ with-last w Same → not v ≡ true → Did f room r₁ w (treeAt f room r) (settle (again nest) (treeAt f room r) (treeAt f room new) low (spentOf w)) q
-    improper low q eq pv =
-        did-same f room r₁ w q _ _ eq (a .grown) (walks.settle-improper (again nest) x y low not-constant (properly ∙ not-yes v pv) (spentOf w))
 
     module _ (pv : not v ≡ false) (r₂ : List ℕ) (w₂ : Work) (d : Walked f r₁ r₂ w (walk true (again nest) false (treeAt f r₁ new) (spentOf w)) w₂) where
       there : (o : Out Spent (Option Tree)) → walk true (again nest) false (treeAt f r₁ new) (spentOf w) ≡ o → walk true (again nest) false y (spentOf w) ≡ o

@@ -151,9 +151,6 @@ module _ (f s₀ : List ℕ) (m₀ : Meter) (list env : ℕ) (s : List ℕ) (m :
   pub each-down : (t : ℕ) → 3 * (4097 - m₀ .steps) + 1 ≡ t → 3 * (4097 - m .steps) < t
   each-down t e = let l : m₀ .steps ≤ m .steps = i .later in omega arith
 
-  pub each-few : k + 1 < 65537
-  each-few = let a : p + k ≤ list = i .upto in let b : list < 65536 = i .few in omega arith
-
   abbrev env-tree : Tree
   env-tree = treeAt f s₀ env
 

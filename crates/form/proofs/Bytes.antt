@@ -4,7 +4,7 @@ use mathlib.Core.List.{List, [], _∷_}
 use mathlib.Core.Bool.{Bool, true, false}
 use Prim.Native.Nat.{ℕ, zero, suc, _<_, _≤_}
 use native.Mathlib.Omega.{arith}
-use lib.ListN.{length, drop, length-append}
+use lib.ListN.{length}
 use lib.Dec.{leb}
 use borrow.Author.Tests.{le-leb, lt-leb, ne-eqb}
 use Rattle.refusals.specs.declared.Refusal.{Refusal}
@@ -31,7 +31,7 @@ use Rattle.form.specs.declared.WriteAnswer.the-variants.{Written, Refuse
 use Rattle.form.specs.Spans.{Stops, stops}
 use Rattle.form.specs.Reads.{WholeTo, WholeOk}
 use Rattle.form.specs.Writes.{Short, Writable, Wrote, extent}
-use Rattle.form.specs.Bytes.{Outcome, answered, refused, read-within, read-outcome, delivered, write-outcome, out-after, room-after, read-says, read-told, write-says, write-told, Reads, Delivers, Writes}
+use Rattle.form.specs.Bytes.{answered, refused, read-within, read-outcome, delivered, write-outcome, out-after, room-after, read-says, read-told, write-says, write-told, Reads, Delivers, Writes}
 use Rattle.form.proofs.Refusals.{form-later}
 use Rattle.form.proofs.Writer.{extent-over, extent-long}
 
@@ -144,12 +144,3 @@ module _ (f s : List ℕ) where
 pub whole-writable : (f s₁ : List ℕ) (m : Made) (q : ℕ) (c : Charges) → WholeOk f s₁ m → m ≡ made q c → Writable f s₁ q
 unfolding WholeOk
 whole-writable f s₁ m q c o e = let w : WholeTo f s₁ c q = rw e at o in node-writable f s₁ c q (w .ready)
-
--- what is said to be written stands in the output
-pub written-within : {o : Outcome} {s s′ w w′ : List ℕ} {a : WriteAnswer} {n u : ℕ} → Writes o s s′ w w′ a → a ≡ Written n u → n ≤ length w′
-unfolding write-says write-told out-after
-written-within {o} {s} {s′} {w} {w′} {a} {n} {u} h e = go o (rw e at (h .delivers .answer)) (h .delivers .out)
-  where
-    go : (o : Outcome) → write-says (Written n u) ≡ write-told o → w′ ≡ out-after o w → n ≤ length w′
-    go (answered bytes units) i j = let z : n ≡ length bytes = cc in rw j (omega (arith, length-append bytes (drop (length bytes) w)))
-    go (refused m) i j = let z : _≡_ {A = ℕ} 0 1 = cc in absurd (omega arith)

@@ -139,8 +139,3 @@ module _ (k : ℕ) (l : Tree) (s : Reading) where
     pub inside-over : unit-limit < t .units + pair-cost → Stops (inside (suc k) l s) UnitsOut
     inside-over g = same-stops then
         (bind-stops (spend limits pair-cost >> give (pair l r)) (inside k) t UnitsOut (seq-stops (spend limits pair-cost) (give (pair l r)) t UnitsOut (spend-stops pair-cost t g)))
-
--- any count that is no less than the bytes that are left reads alike
-pub tree-enough : (k : ℕ) (s : Reading) → length (s .left) ≤ k → read limits k s ≡ next-tree s
-unfolding next-tree
-tree-enough k s h = read-enough limits k (length (s .left)) s h (omega arith)

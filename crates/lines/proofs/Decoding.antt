@@ -8,7 +8,7 @@ use native.Mathlib.Omega.{arith}
 use lib.Dec.{ltb, eqb}
 use lib.ListN.{length, take, length-take, length-append}
 use lib.Seq.{take-all, take-append-le}
-use borrow.Author.Tests.{ltb-true, ltb-false, lt-ltb, le-ltb}
+use borrow.Author.Tests.{ltb-true, ltb-false, lt-ltb}
 use Rattle.io.specs.Digits.{glyph}
 use Rattle.lines.specs.declared.read.Got.the-variants.{Form, Bad}
 use Rattle.lines.specs.Hex.{digit-of, before, two-before, decode, hex-of}

@@ -1,5 +1,6 @@
 -- Printing byte by byte: what stands after one more, and what a loop over a word or over bytes keeps.
 use mathlib.Core.Path.{_≡_, refl, sym, _∙_, ap}
+use mathlib.Core.Bool.{Bool, true, false}
 use mathlib.Core.List.{List, [], _∷_, _++_, append-nil, append-assoc}
 use Prim.Native.Nat.{ℕ, zero, suc, _+_, _-_, _*_, _/_, _%_, _^_, _≤_, _<_}
 use native.Mathlib.Omega.{arith}
@@ -10,7 +11,7 @@ use lib.Seq.{take-suc, take-suc-set, take-all}
 use borrow.Author.Tests.{lt-ltb, le-ltb}
 use Rattle.io.specs.Digits.{glyph, digits, Fewest}
 use Rattle.lines.specs.Hex.{hex-of}
-use Rattle.lines.specs.Text.{Printed, ok-tree, places, decimal-of, blank-decimal, no-number}
+use Rattle.lines.specs.Text.{Printed, ok-tree, places, decimal-of, blank-decimal, mark-end, spent-line, no-number}
 
 pub nothing : (s : List ℕ) (at : ℕ) → Printed [] s s at at
 nothing s at = record { long = refl; within = λ h. h; stands = λ h. sym (append-nil (take at s)); next = λ h. omega arith }
@@ -128,3 +129,13 @@ blank-ends n s t u at k r q p = joined (32 ∷ []) (decimal-of n) s t u at k r q
 pub no-ends : (n : ℕ) (s t u v : List ℕ) (at k m r : ℕ) → Printed (10 ∷ []) u v m r → Printed (blank-decimal n) t u k m → Printed (110 ∷ 111 ∷ []) s t at k → Printed (no-number n) s v at r
 unfolding no-number
 no-ends n s t u v at k m r o q p = joined (110 ∷ 111 ∷ []) (blank-decimal n ++ (10 ∷ [])) s t v at k r (joined (blank-decimal n) (10 ∷ []) t u v k m r o q) p
+
+-- units and mark
+module _ (u : ℕ) (m : Bool) (s t v : List ℕ) (at a r : ℕ) where
+  pub spent-marked : Printed (32 ∷ 49 ∷ 10 ∷ []) t v a r → Printed (blank-decimal u) s t at a → m ≡ true → Printed (spent-line u m) s v at r
+  unfolding spent-line mark-end
+  spent-marked k h e = rw e (joined (blank-decimal u) (mark-end true) s t v at a r k h)
+
+  pub spent-unmarked : Printed (32 ∷ 48 ∷ 10 ∷ []) t v a r → Printed (blank-decimal u) s t at a → m ≡ false → Printed (spent-line u m) s v at r
+  unfolding spent-line mark-end
+  spent-unmarked k h e = rw e (joined (blank-decimal u) (mark-end false) s t v at a r k h)

@@ -1,19 +1,17 @@
 -- Reading a line byte by byte: the value of a digit, what one byte more leaves, and what the loop over bytes keeps.
 use mathlib.Core.Path.{_≡_, refl, sym, _∙_, ap}
 use mathlib.Core.Bool.{Bool, true, false}
-use mathlib.Core.List.{List, [], _∷_, _++_}
+use mathlib.Core.List.{List, _∷_}
 use Prim.Native.Nat.{ℕ, _+_, _-_, _*_, _≤_, _<_}
 use native.Mathlib.Omega.{arith}
 use native.Mathlib.Numerals.{add-one}
-use lib.Dec.{ltb, leb, eqb}
 use lib.ListN.{length, take, drop, getD, set, length-set, drop-of-length-le}
 use lib.Seq.{take-suc-set, length-take-le, drop-cons}
 use borrow.Author.Tests.{lt-ltb, le-ltb, le-leb, lt-leb, eq-eqb, ne-eqb}
 use Rattle.lines.specs.declared.read.Got.the-variants.{Form, Bad}
 use Rattle.lines.specs.declared.read.Line.{Line}
-use Rattle.lines.specs.declared.read.Part.{Part}
 use Rattle.lines.specs.Hex.{digit-of}
-use Rattle.lines.specs.Line.{Seen, shown, keep, more, judged, Walked, walked, walk, Took, Passed}
+use Rattle.lines.specs.Line.{Seen, shown, keep, more, judged, walk, Took, Passed}
 
 -- a digit's value
 pub below : (x : ℕ) → x < 48 → 16 ≡ digit-of x

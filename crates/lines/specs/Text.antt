@@ -1,7 +1,7 @@
 -- What printing leaves in the text that waits.
 use Prim.Native.Nat.{ℕ, zero, suc, _+_, _/_, _≤_}
 use mathlib.Core.Path.{_≡_}
-use mathlib.Core.Bool.{true, false}
+use mathlib.Core.Bool.{Bool, true, false}
 use mathlib.Core.List.{List, [], _∷_, _++_}
 use lib.Dec.{ltb}
 use lib.ListN.{length, take}
@@ -34,6 +34,16 @@ decimal-of n = digits 10 (places 19 n) n
 unfoldable pub blank-decimal : ℕ → List ℕ
 unfolding decimal-of
 blank-decimal n = 32 ∷ decimal-of n
+
+-- a blank, the mark as 0 or 1, and the line's end
+unfoldable pub mark-end : Bool → List ℕ
+mark-end true = 32 ∷ 49 ∷ 10 ∷ []
+mark-end false = 32 ∷ 48 ∷ 10 ∷ []
+
+-- the end of a line: units and mark
+unfoldable pub spent-line : ℕ → Bool → List ℕ
+unfolding blank-decimal mark-end
+spent-line units mark = blank-decimal units ++ mark-end mark
 
 -- `no` and the number
 unfoldable pub no-number : ℕ → List ℕ

@@ -9,6 +9,7 @@ pub use print::print_no;
 pub use print::print_no_line;
 pub use print::print_number;
 pub use print::print_ok;
+pub use print::print_spent;
 pub use print::print_word;
 pub use read::Got;
 pub use read::Lines;

@@ -5,7 +5,7 @@ ghost use Prim.Native.Nat.{_<_};
 ghost use mathlib.Core.List.{[], _∷_};
 ghost use Rattle.io.specs.Digits.{glyph};
 ghost use Rattle.lines.specs.Hex.{hex-of};
-ghost use Rattle.lines.specs.Text.{Printed, ok-tree, decimal-of, blank-decimal, no-number, no-line};
+ghost use Rattle.lines.specs.Text.{Printed, ok-tree, decimal-of, blank-decimal, spent-line, no-number, no-line};
 
 // Writes what waits.
 pub fn flush(text: &[u8], at: usize) {
@@ -91,6 +91,17 @@ pub fn print_number(text: &mut [u8], at: usize, n: u64) -> usize
 {
     let k = put(text, at, b' ');
     put_decimal(text, k, n)
+}
+
+// The end of an outcome's line: units and mark.
+pub fn print_spent(text: &mut [u8], at: usize, units: u64, mark: bool) -> usize
+    ensures { λ r. ⌜ Printed (spent-line units mark) (now (text .entry)) (now (text .exit)) at r ⌝ }
+{
+    let k = print_number(text, at, units);
+    if mark {
+        return print_word(text, k, b" 1\n");
+    }
+    print_word(text, k, b" 0\n")
 }
 
 // The outcome of a form that was refused: `no`, and the refusal's number.

@@ -101,9 +101,6 @@ module _ (f s₀ : List ℕ) (c : Charges) (k : ℕ) (b : Begun f s₀ c) where
       unfolding FormOk
       to = rw e at o
 
-      pub first-ready : Ready f s₁ c₁ p
-      first-ready = to .ready
-
       pub first-held : Held f s₁ c₁
       first-held = to .ready .held
 

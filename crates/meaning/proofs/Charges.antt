@@ -1,16 +1,15 @@
--- Two charges one after the other are one charge of the sum, and a charge of nothing is nothing. Assumes nothing.
-use Prim.Native.Nat.{ℕ, _+_, _≤_, _<_}
+-- Two charges one after the other are one charge of the sum. Assumes nothing.
+use Prim.Native.Nat.{ℕ, _+_, _<_}
 use mathlib.Core.Path.{_≡_, refl, sym, _∙_, ap, ap₂, subst}
 use mathlib.Core.Bool.{true, false, not}
 use lib.Dec.{leb, T, nleb→lt}
 use native.Mathlib.Omega.{arith}
-use native.Mathlib.Nat.{add-assoc, add-zero}
-use Rattle.refusals.specs.declared.Refusal.{Refusal}
+use native.Mathlib.Nat.{add-assoc}
 use Rattle.refusals.specs.declared.Refusal.the-variants.{UnitsOut}
 use Rattle.meaning.specs.Limits.{unit-limit}
 use Rattle.meaning.specs.Meter.{M, Out, done, stop, _>>_, Spent, Steps, charge, chargeE}
 use Rattle.meaning.specs.Form.{Reading, limits, spend}
-use Rattle.meaning.proofs.Tests.{on-bool, leb-true, leb-no}
+use Rattle.meaning.proofs.Tests.{on-bool, leb-no}
 use Rattle.meaning.proofs.MeterLaws.{seq-at, seq-stop}
 
 -- what a test that failed says
@@ -62,10 +61,6 @@ module _ (P : Purse) where
       seq-stop (take a) (take b) s (P .put unit-limit s) UnitsOut (at-over n s e)
       ∙ sym (at-over (P .units s + (a + b)) s (leb-no (P .units s + (a + b)) unit-limit (omega arith))))
 
-  take-none : (s : P .S) → P .units s ≤ unit-limit → take 0 s ≡ done tt s
-  unfolding take
-  take-none s h = ap (λ n. at n s) (add-zero (P .units s)) ∙ at-fits (P .units s) s (leb-true _ _ h) ∙ ap (done tt) (P .put-units s)
-
 abbrev run-purse : Purse
 run-purse = record {
   S = Spent;
@@ -103,35 +98,14 @@ pub charge-both : (a b : ℕ) (s : Spent) → (charge a >> charge b) s ≡ charg
 unfolding charge take _>>_
 charge-both a b s = take-both run-purse a b s
 
--- so, after a first charge, what is left of the sum is the second
-pub charge-then : (a b : ℕ) (s t : Spent) → charge a s ≡ done tt t → charge (a + b) s ≡ charge b t
-charge-then a b s t h = sym (charge-both a b s) ∙ seq-at (charge a) (charge b) s t tt h
-
--- and where a first charge is refused, the sum is refused, in the same state
-pub charge-stops : (a b : ℕ) (s t : Spent) (n : Refusal) → charge a s ≡ stop n t → charge (a + b) s ≡ stop n t
-charge-stops a b s t n h = sym (charge-both a b s) ∙ seq-stop (charge a) (charge b) s t n h
-
--- where the units are within their limit, a charge of nothing does nothing
-pub charge-none : (s : Spent) → s .units ≤ unit-limit → charge 0 s ≡ done tt s
-unfolding charge take
-charge-none s h = take-none run-purse s h
-
 -- ---- in an evaluation
 
 pub chargeE-both : (a b : ℕ) (s : Steps) → (chargeE a >> chargeE b) s ≡ chargeE (a + b) s
 unfolding chargeE take _>>_
 chargeE-both a b s = take-both evaluation-purse a b s
 
-pub chargeE-none : (s : Steps) → s .units ≤ unit-limit → chargeE 0 s ≡ done tt s
-unfolding chargeE take
-chargeE-none s h = take-none evaluation-purse s h
-
 -- ---- at the reader
 
 pub spend-both : (a b : ℕ) (s : Reading) → (spend limits a >> spend limits b) s ≡ spend limits (a + b) s
 unfolding spend take _>>_
 spend-both a b s = take-both reading-purse a b s
-
-pub spend-none : (s : Reading) → s .units ≤ unit-limit → spend limits 0 s ≡ done tt s
-unfolding spend take
-spend-none s h = take-none reading-purse s h

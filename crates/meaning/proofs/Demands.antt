@@ -5,7 +5,7 @@
 use Prim.Native.Nat.{ℕ, _≤_}
 use mathlib.Core.Path.{_≡_, refl}
 use mathlib.Core.List.{List, []}
-use mathlib.Core.Bool.{Bool, true, false}
+use mathlib.Core.Bool.{Bool, false}
 use lib.ListN.{length}
 use native.Mathlib.Omega.{arith}
 use Rattle.refusals.specs.declared.Refusal.{Refusal}
@@ -13,11 +13,11 @@ use Rattle.refusals.specs.declared.Refusal.the-variants.{RoomSmall, FormLong, E
 use Rattle.refusals.specs.Numbers.{number-of}
 use Rattle.meaning.specs.Tree.{Tree}
 use Rattle.meaning.specs.Limits.{form-limit, unit-limit}
-use Rattle.meaning.specs.Meter.{Out, done, stop, Spent, Steps}
+use Rattle.meaning.specs.Meter.{done, Spent, Steps}
 use Rattle.meaning.specs.Form.{Reading, read-form, write, ReadsAs}
 use Rattle.meaning.specs.Evaluate.{Gives, evaluate}
 use Rattle.meaning.specs.Driver.{optimize-sexp}
-use Rattle.meaning.specs.Run.{Ran, answered, refused, run, out-after}
+use Rattle.meaning.specs.Run.{answered, refused, run, out-after}
 use Rattle.meaning.proofs.Atoms.{Narrow, tree-cost}
 use Rattle.meaning.proofs.ReaderLaws.{IsBytes}
 use Rattle.meaning.proofs.ReadWrite.{form-read}

@@ -82,9 +82,6 @@ never-falls m alike a s x h = rw h at (alike (s .passes) .leaves s (omega arith)
 pub alike-pass : (again : Tree → W Tree) → NeverFalls again → (k n : ℕ) (t : Tree) → Alike k (pass n (optimizers again) t) (pass n (optimizers again) t)
 alike-pass again up k n t = walk-pass (to-be-alike k) again again (never-alike again up k) n t
 
-pub pass-never-falls : (again : Tree → W Tree) → NeverFalls again → (n : ℕ) → NeverFalls (pass n (optimizers again))
-pass-never-falls again up n t u s x h = never-falls (pass n (optimizers again) t) (λ k. alike-pass again up k n t) u s x h
-
 pub loop-never-falls : (again : Tree → W Tree) → NeverFalls again → (n : ℕ) → NeverFalls (loop again n)
 loop-never-falls again up n t u s x h = never-falls (loop again n t) (λ k. walk-loop (to-be-alike k) again again (never-alike again up k) n t) u s x h
 

@@ -1,12 +1,12 @@
 -- Looking up a composed path is looking up one and then the other. Assumes nothing.
-use Prim.Native.Nat.{ℕ, zero, suc, _+_, _*_, _/_, _%_, _≤_, _<_}
-use mathlib.Core.Path.{_≡_, refl, sym, _∙_, subst, ap, ap₂, fun-ext}
+use Prim.Native.Nat.{ℕ, zero, suc, _+_, _*_, _/_, _%_, _≤_}
+use mathlib.Core.Path.{_≡_, refl, sym, _∙_, ap, fun-ext}
 use mathlib.Core.List.{List, [], _∷_, _++_}
 use mathlib.Core.Bool.{Bool, true, false}
 use mathlib.Core.Option.{Option, none, some}
 use lib.Dec.{leb, eqb}
 use native.Mathlib.Omega.{arith}
-use Rattle.meaning.specs.Tree.{Tree, atom, pair, nil}
+use Rattle.meaning.specs.Tree.{Tree, atom, pair}
 use Rattle.meaning.proofs.Tests.{on-bool, leb-no}
 use Rattle.meaning.specs.Number.{turns-in, turns, follow, lookup, onto, compose-paths}
 

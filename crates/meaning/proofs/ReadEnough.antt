@@ -7,14 +7,12 @@ use lib.Dec.{eqb}
 use lib.ListN.{length, length-append}
 use native.Mathlib.Omega.{arith}
 use Rattle.refusals.specs.declared.Refusal.the-variants.{EndsEarly}
-use Rattle.meaning.specs.Tree.{Tree, pair}
-use Rattle.meaning.specs.Limits.{pair-cost}
-use Rattle.meaning.specs.Meter.{Out, done, stop, M, _>>=_, _>>_, give, refuse}
-use Rattle.meaning.specs.Form.{Reading, Bounds, next, first-of, spend, read-atom, read}
-use Rattle.meaning.proofs.Tests.{on-bool}
-use Rattle.meaning.proofs.ReaderLaws.{at, Took}
+use Rattle.meaning.specs.Tree.{Tree}
+use Rattle.meaning.specs.Meter.{Out, done, stop, M, _>>=_, _>>_, refuse}
+use Rattle.meaning.specs.Form.{Reading, Bounds, next, first-of, read-atom, read}
+use Rattle.meaning.proofs.ReaderLaws.{at}
 use Rattle.meaning.proofs.WriteRead.{two-parts}
-use Rattle.meaning.proofs.ReadWrite.{ReadFrom, read-inv}
+use Rattle.meaning.proofs.ReadWrite.{read-inv}
 
 -- two works that begin alike, and go on alike from what the first gives
 bind-same : {S A B : Type 0} (m n : M S A) (f g : A → M S B) (s : S) → m s ≡ n s → ((a : A) (t : S) → m s ≡ done a t → f a t ≡ g a t) → (m >>= f) s ≡ (n >>= g) s

@@ -1,6 +1,6 @@
 -- When a rule gives another tree than its input: always, where it matched. Assumes nothing.
 use Prim.Native.Nat.{ℕ, _+_}
-use mathlib.Core.Path.{_≡_, refl, sym}
+use mathlib.Core.Path.{_≡_, refl}
 use mathlib.Core.List.{List, [], _∷_}
 use mathlib.Core.Bool.{Bool, true, false, _&&_, not}
 use mathlib.Core.Option.{none, some}
@@ -13,7 +13,7 @@ use Rattle.meaning.specs.Match.{Match, Binding, matched, no-match, too-m
 use Rattle.meaning.specs.Constant.{seems-constant}
 use Rattle.meaning.specs.Substitute.{first-name, rest-name}
 use Rattle.meaning.specs.Rules.{cons-optimizer-pattern, cons-optimizer, constant-optimizer, applied, not-applied, applied-of, is-args-call, cons-q-a-optimizer, atom-name, atom-pattern, longer, path-optimizer, quote-pattern-1, quote-null-optimizer, apply-null-pattern-1, apply-null-optimizer}
-use Rattle.meaning.proofs.Tests.{on-bool, not-true, and-inv}
+use Rattle.meaning.proofs.Tests.{on-bool, not-true}
 use Rattle.meaning.proofs.TreeLaws.{equal-to-sound}
 use Rattle.meaning.proofs.MatchLaws.{bind}
 use Rattle.meaning.proofs.Shapes.{cons-of, apply-of, part-of, part-of-cons-shape, applied-shape, quote-null-shape, apply-null-shape, part-of-atom-shape}
@@ -74,13 +74,6 @@ is-worked-out r = not (is-quote r) && seems-constant r && non-nil r
 pub constant-gives : (r : Tree) → is-worked-out r ≡ true → (s : Spent) → constant-optimizer r s ≡ (within (evaluate r nil) >>= λ v. charge (5 + pair-cost) >> give (quote v)) s
 unfolding constant-optimizer
 constant-gives r t s = rw (t, constant-optimizer)
-
-pub constant-differs : (r v : Tree) → is-worked-out r ≡ true → equal-to r (quote v) ≡ false
-constant-differs r v t = quote-differs r v (go (is-quote r) (and-inv (not (is-quote r) && seems-constant r) (non-nil r) t .0))
-  where
-    go : (b : Bool) → (not b && seems-constant r) ≡ true → b ≡ false
-    go true h = sym h
-    go false h = refl
 
 pub constant-same : (r : Tree) → is-worked-out r ≡ false → (s : Spent) → constant-optimizer r s ≡ done r s
 unfolding constant-optimizer

@@ -2,7 +2,7 @@
 use Prim.Native.Nat.{ℕ, zero, suc}
 use mathlib.Core.Path.{_≡_, refl}
 use mathlib.Core.List.{List, [], _∷_, _++_, map}
-use mathlib.Core.Bool.{Bool, true, false}
+use mathlib.Core.Bool.{true, false}
 use Rattle.refusals.specs.declared.Refusal.the-variants.{Fails, TooDeep}
 use Rattle.meaning.specs.Run.{Ran, answered, refused, run}
 

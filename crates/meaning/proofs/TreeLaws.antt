@@ -1,12 +1,11 @@
 -- Laws of the tests on trees. Assumes nothing.
-use Prim.Native.Nat.{ℕ, zero, suc, _+_, _≤_, _<_}
-use mathlib.Core.Path.{_≡_, refl, sym, _∙_, subst, ap, ap₂}
+use Prim.Native.Nat.{ℕ}
+use mathlib.Core.Path.{_≡_, refl, ap, ap₂}
 use mathlib.Core.List.{List, [], _∷_}
-use mathlib.Core.Bool.{Bool, true, false, _&&_}
+use mathlib.Core.Bool.{true}
 use mathlib.Core.Option.{Option, none, some}
-use lib.Dec.{eqb}
 use Rattle.meaning.proofs.Tests.{not-false, and-inv, eqb-sound}
-use Rattle.meaning.specs.Tree.{Tree, atom, pair, nil, byte, enlist, same-bytes, equal-to, proper-list, is-byte, is-empty}
+use Rattle.meaning.specs.Tree.{Tree, atom, pair, enlist, same-bytes, equal-to, proper-list, is-byte, is-empty}
 
 pub same-bytes-sound : (a b : List ℕ) → same-bytes a b ≡ true → a ≡ b
 unfolding same-bytes
@@ -47,8 +46,3 @@ proper-list-sound (pair t r) es h = go (proper-list r) (proper-list-sound r) h
     go : (o : Option (List Tree)) → ((ts : List Tree) → o ≡ some ts → r ≡ enlist ts) → elim o [ none ↦ none | some ts ↦ some (t ∷ ts) ] ≡ some es → pair t r ≡ enlist es
     go none ih k = cc
     go (some ts) ih k = let e : t ∷ ts ≡ es = cc in rw (← e) (ap (pair t) (ih ts refl))
-
-pub proper-list-enlist : (es : List Tree) → proper-list (enlist es) ≡ some es
-unfolding proper-list enlist
-proper-list-enlist [] = refl
-proper-list-enlist (e ∷ es) = rw (proper-list-enlist es)

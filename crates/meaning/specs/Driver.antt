@@ -1,7 +1,7 @@
 -- optimize.rs, `optimize_sexp_` without its memo.
 use Prim.Native.Nat.{ℕ, zero, suc}
 use mathlib.Core.List.{List, [], _∷_}
-use mathlib.Core.Bool.{Bool, true, false}
+use mathlib.Core.Bool.{true, false}
 use Rattle.refusals.specs.declared.Refusal.the-variants.{PassesOut, TooDeep}
 use Rattle.meaning.specs.Tree.{Tree, atom, pair, equal-to}
 use Rattle.meaning.specs.Limits.{pass-limit}

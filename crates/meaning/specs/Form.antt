@@ -5,7 +5,6 @@ use mathlib.Core.List.{List, [], _∷_, _++_}
 use mathlib.Core.Bool.{Bool, true, false}
 use lib.Dec.{eqb, leb, ltb}
 use lib.ListN.{length}
-use Rattle.refusals.specs.declared.Refusal.{Refusal}
 use Rattle.refusals.specs.declared.Refusal.the-variants.{FormLong, EndsEarly, BadPrefix, AtomLong, BytesAfter, UnitsOut}
 use Rattle.meaning.specs.Tree.{Tree, atom, pair, nil, byte, is-empty}
 use Rattle.meaning.specs.Limits.{form-limit, atom-limit, unit-limit, pair-cost}

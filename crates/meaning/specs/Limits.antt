@@ -1,5 +1,5 @@
 -- Document 01, "Numbers that bound a run": each limit and each charge, by name.
-use Prim.Native.Nat.{ℕ, zero, suc, _+_}
+use Prim.Native.Nat.{ℕ, _+_}
 use mathlib.Core.List.{List, [], _∷_}
 use lib.ListN.{length}
 

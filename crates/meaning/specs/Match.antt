@@ -1,7 +1,7 @@
 -- pattern_match.rs: any tree may be the pattern; at most two names, compared by bytes.
 use Prim.Native.Nat.{ℕ}
 use mathlib.Core.List.{List, [], _∷_}
-use mathlib.Core.Bool.{Bool, true, false, _&&_, not}
+use mathlib.Core.Bool.{true, false, _&&_, not}
 use mathlib.Core.Option.{Option, none, some}
 use Rattle.meaning.specs.Tree.{Tree, atom, pair, same-bytes, equal-to, is-byte}
 

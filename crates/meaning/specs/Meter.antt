@@ -1,6 +1,5 @@
 -- Work that goes on or is refused: over the state of a reading, of an evaluation and of a run.
 use Prim.Native.Nat.{ℕ, _+_}
-use mathlib.Core.List.{List}
 use mathlib.Core.Bool.{Bool, true, false, _||_}
 use lib.Dec.{leb}
 use Rattle.refusals.specs.declared.Refusal.{Refusal}

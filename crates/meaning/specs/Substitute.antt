@@ -4,8 +4,8 @@ use mathlib.Core.List.{List, [], _∷_}
 use mathlib.Core.Bool.{Bool, true, false, _&&_, _||_, not}
 use mathlib.Core.Option.{Option, none, some}
 use lib.Dec.{eqb}
-use Rattle.meaning.specs.Tree.{Tree, atom, pair, nil, byte, enlist, is-empty, is-byte}
-use Rattle.meaning.specs.Number.{Signed, plus, minus, number-from-u8, turns}
+use Rattle.meaning.specs.Tree.{Tree, atom, pair, byte, enlist, is-empty, is-byte}
+use Rattle.meaning.specs.Number.{plus, minus, number-from-u8, turns}
 use Rattle.meaning.specs.Limits.{pair-cost}
 use Rattle.meaning.specs.Match.{sexp-match, match-sexp, got}
 

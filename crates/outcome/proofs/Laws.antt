@@ -1,10 +1,9 @@
 -- The line that is printed is the run's.
 use mathlib.Core.Path.{_≡_, sym, _∙_, ap, subst}
 use mathlib.Core.Bool.{Bool}
-use mathlib.Core.List.{List, [], _∷_, _++_}
+use mathlib.Core.List.{List, _++_}
 use Prim.Native.Nat.{ℕ, _≤_}
-use native.Mathlib.Omega.{arith}
-use lib.ListN.{length, take, drop}
+use lib.ListN.{length, take}
 use lib.Seq.{length-take-le}
 use Rattle.refusals.specs.declared.Refusal.{Refusal}
 use Rattle.refusals.specs.Numbers.{number-of}
@@ -12,26 +11,20 @@ use Rattle.meaning.specs.Run.{Ran, answered, refused, run, out-after}
 use Rattle.optimiser.specs.declared.Report.{Report}
 use Rattle.optimiser.specs.declared.Answer.{Answer}
 use Rattle.optimiser.specs.declared.Answer.the-variants.{Answered, Refused}
-use Rattle.optimiser.specs.Optimised.{mark-number, Optimised}
+use Rattle.optimiser.specs.Optimised.{Optimised}
 use Rattle.optimiser.proofs.Answers.{Answers, answers, refuses}
-use Rattle.lines.specs.Text.{Printed, ok-tree, blank-decimal, no-number}
+use Rattle.lines.specs.Text.{Printed, ok-tree, blank-decimal, spent-line, no-number}
 use Rattle.lines.proofs.Printing.{joined}
 use Rattle.lines.proofs.Front.{Front, front}
 use Rattle.outcome.specs.Line.{line-of}
 
 -- the answer's line, part by part
-pub answer-printed : (bs : List ℕ) (passes units : ℕ) (mark : Bool) (m : ℕ) (s t u v x y : List ℕ) (at a b c d k : ℕ) → m ≡ mark-number mark
-    → Printed (10 ∷ []) x y d k → Printed (blank-decimal m) v x c d → Printed (blank-decimal units) u v b c
-    → Printed (blank-decimal passes) t u a b → Printed (ok-tree bs) s t at a
-    → Printed (line-of (answered bs passes units mark)) s y at k
+pub answer-printed : (bs : List ℕ) (passes units : ℕ) (mark : Bool) (s t u v : List ℕ) (at a b k : ℕ)
+    → Printed (spent-line units mark) u v b k → Printed (blank-decimal passes) t u a b → Printed (ok-tree bs) s t at a
+    → Printed (line-of (answered bs passes units mark)) s v at k
 unfolding line-of
-answer-printed bs passes units mark m s t u v x y at a b c d k e l i h g f =
-    let n = mark-number mark in
-    let i′ : Printed (blank-decimal n) v x c d = subst (λ (z : ℕ). Printed (blank-decimal z) v x c d) e i in
-    let q = joined (blank-decimal n) (10 ∷ []) v x y c d k l i′ in
-    let r = joined (blank-decimal units) (blank-decimal n ++ (10 ∷ [])) u v y b c k q h in
-    let o = joined (blank-decimal passes) (blank-decimal units ++ (blank-decimal n ++ (10 ∷ []))) t u y a b k r g in
-    joined (ok-tree bs) (blank-decimal passes ++ (blank-decimal units ++ (blank-decimal n ++ (10 ∷ [])))) s t y at a k o f
+answer-printed bs passes units mark s t u v at a b k h g f =
+    joined (ok-tree bs) (blank-decimal passes ++ spent-line units mark) s t v at a k (joined (blank-decimal passes) (spent-line units mark) t u v a b k h g) f
 
 -- the answer's bytes stand at the front of the output
 module _ (f s w s′ w′ : List ℕ) (a : Answer) (h : Optimised f s w a s′ w′) where

@@ -1,29 +1,18 @@
 // The optimiser's outcome as one line of text.
 use optimiser::Answer;
 use optimiser::Report;
-ghost use mathlib.Core.Path.{_≡_};
 ghost use lib.ListN.{length};
 ghost use Rattle.meaning.specs.Run.{answered, run};
-ghost use Rattle.optimiser.specs.Optimised.{mark-number};
 ghost use Rattle.lines.specs.Text.{Printed};
 ghost use Rattle.outcome.specs.Line.{line-of};
-
-fn mark_number(mark: bool) -> u64
-    ensures { λ r. ⌜ r ≡ mark-number mark ⌝ }
-{
-    if mark { 1 } else { 0 }
-}
 
 // Prints an answer after text[..at]: `ok`, the tree, passes, units and mark.
 fn print_answer(tree: &[u8], r: Report, text: &mut [u8], at: usize) -> usize
     ensures { λ k. ⌜ Printed (line-of (answered (now (tree .entry)) (r .passes) (r .units) (r .mark))) (now (text .entry)) (now (text .exit)) at k ⌝ }
 {
-    let m = mark_number(r.mark);
     let a = lines::print_ok(text, at, tree);
     let b = lines::print_number(text, a, r.passes as u64);
-    let c = lines::print_number(text, b, r.units as u64);
-    let d = lines::print_number(text, c, m);
-    lines::print_word(text, d, b"\n")
+    lines::print_spent(text, b, r.units as u64, r.mark)
 }
 
 // Prints a form's outcome after text[..at]: what print_answer prints, or `no` and the refusal's number.

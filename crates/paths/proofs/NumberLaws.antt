@@ -68,11 +68,6 @@ upto-set bs i v h = rw (add-one, take-suc-set bs i v) (number-snoc (take i bs) v
 pub upto-all : (bs : List ℕ) (n : ℕ) → length bs ≡ n → number (take n bs) ≡ number bs
 upto-all bs n e = rw (← e, take-length)
 
-number-zeros : (n : ℕ) → number (replicate n 0) ≡ 0
-unfolding number number-from
-number-zeros zero = refl
-number-zeros (suc n) = number-zeros n
-
 pub upto-zeros : (i n : ℕ) → number (take i (replicate n 0)) ≡ 0
 unfolding number number-from
 upto-zeros zero n = refl

@@ -1,6 +1,6 @@
 -- The shortest unsigned bytes of a number are its bytes without the zeros in front. Assumes nothing.
 use Prim.Native.Nat.{ℕ, zero, suc, _+_, _-_, _*_, _/_, _%_, _≤_, _<_}
-use mathlib.Core.Path.{_≡_, refl, sym, _∙_, ap, ap₂, subst}
+use mathlib.Core.Path.{_≡_, refl, sym, _∙_, ap, subst}
 use mathlib.Core.List.{List, [], _∷_, _++_, append-nil}
 use native.Mathlib.Nat.{le-of-eq}
 use native.Mathlib.Omega.{arith}
@@ -12,7 +12,7 @@ use Rattle.meaning.proofs.Tests.{on-bool, leb-yes, leb-no}
 use Rattle.meaning.specs.Number.{number, number-from, bytes-onto, bytes-of}
 use Rattle.paths.specs.Wide.{Shortest, Holds}
 use Rattle.paths.specs.declared.casts.Number.{Number}
-use Rattle.paths.proofs.NumberLaws.{Bytes, on-lt, upto-suc, split-at, bytes-drop, number-inj}
+use Rattle.paths.proofs.NumberLaws.{Bytes, on-lt, upto-suc, split-at, bytes-drop}
 
 -- any count that is large enough gives the same bytes
 bytes-any : (k j n : ℕ) (bs : List ℕ) → n ≤ k → n ≤ j → bytes-onto k n bs ≡ bytes-onto j n bs
@@ -162,13 +162,3 @@ held-len {v} {n} h =
     let w = h .wide in
     let k = h .within in
     omega arith
-
-pub held-bytes : {v : ℕ} {n : Number} {s : List ℕ} → Holds v n → s ≡ bytes-of (number (n .bytes)) → s ≡ bytes-of v
-held-bytes h e = e ∙ ap bytes-of (h .value)
-
--- so only one number of bytes holds v
-pub held-once : {v : ℕ} {m n : Number} → Holds v m → Holds v n → Bytes (m .bytes) → Bytes (n .bytes) → m ≡ n
-held-once {v} {m} {n} h k x y =
-    let e : m .bytes ≡ n .bytes = number-inj (m .bytes) (n .bytes) (h .wide ∙ sym (k .wide)) x y (h .value ∙ sym (k .value)) in
-    let f : m .len ≡ n .len = held-len h ∙ sym (held-len k) in
-    ap₂ (λ b l. record { bytes = b; len = l }) e f

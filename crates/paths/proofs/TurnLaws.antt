@@ -11,7 +11,7 @@ use lib.Bits.{bitAnd, and-mask}
 use lib.Dec.{leb, eqb}
 use lib.ListN.{length, take, drop, getD, length-drop}
 use lib.Pow.{pow-add, field, mod-mod-pow}
-use lib.Seq.{drop-cons, drop-length}
+use lib.Seq.{drop-cons}
 use mir.Syntax.{w64}
 use mir.Val.{Fits}
 use Rattle.meaning.proofs.Tests.{on-bool, leb-no, leb-true}
@@ -112,9 +112,6 @@ turn-bit (suc i) n h =
 -- the walk: one turn, and then those from the next index on
 pub next-turn : (ds : List Bool) (i : ℕ) (r : Bool) → i < length ds → r ≡ getD ds i false → drop i ds ≡ r ∷ drop (i + 1) ds
 next-turn ds i r h e = rw (add-one, drop-cons ds i false, e)
-
-pub no-turn : (ds : List Bool) (n : ℕ) → n ≡ length ds → drop n ds ≡ []
-no-turn ds n e = rw (e, drop-length)
 
 -- ---- in the bytes
 

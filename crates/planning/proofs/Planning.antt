@@ -4,7 +4,7 @@ use mathlib.Core.List.{List}
 use mathlib.Core.Bool.{Bool, true, false, not}
 use Prim.Native.Nat.{ℕ, _<_, _≤_}
 use Rattle.meaning.specs.Tree.{Tree, is-quote}
-use Rattle.meaning.specs.Meter.{W, Out, Spent, give}
+use Rattle.meaning.specs.Meter.{W, give}
 use Rattle.meaning.specs.Constant.{seems-constant}
 use Rattle.meaning.specs.Substitute.{is-proper}
 use Rattle.meaning.specs.Rules.{settle, var-change-optimizer-cons-eval, children-optimizer}
@@ -28,7 +28,7 @@ use Rattle.driver_parts.proofs.Numbers.{any-driver}
 use Rattle.planning.specs.declared.Body.{Body}
 use Rattle.planning.specs.declared.Plan.{Plan}
 use Rattle.planning.specs.declared.Plan.the-variants.{Worked, Constant, Listed, Elements}
-use Rattle.planning.specs.Plans.{Rule-work, Is-done, Settles, Settles-constant, Settles-list, PlanOk, Of-body, Settling}
+use Rattle.planning.specs.Plans.{Rule-work, Settles, PlanOk, Of-body, Settling}
 
 -- ---- settle
 

@@ -23,24 +23,16 @@ use Rattle.rules.specs.declared.Outcome.the-variants.{Same, Changed, Stopped}
 use Rattle.rules.specs.declared.Work.{Work}
 use Rattle.rules.specs.Work.{spentOf}
 use Rattle.lines.specs.Hex.{hex-of}
-use Rattle.lines.specs.Text.{Printed, blank-decimal, no-number, no-line}
+use Rattle.lines.specs.Text.{Printed, spent-line, no-number, no-line}
 use Rattle.lines.proofs.Printing.{joined}
 use Rattle.lines.proofs.Front.{Front, front}
 use Rattle.rule_lines.specs.Said.{same, changed, refused, written, said, Applied}
-use Rattle.rule_lines.specs.Line.{mark-end, spent-line, line-of, rule-of, line-for}
+use Rattle.rule_lines.specs.Line.{line-of, rule-of, line-for}
 use Rattle.rule_lines.proofs.Applying.{left-same, changed-at, refused-by}
 
--- ---- units and mark; `same`
+-- ---- `same`
 
 module _ (u : ℕ) (m : Bool) (s t v : List ℕ) (at a r : ℕ) where
-  pub spent-marked : Printed (32 ∷ 49 ∷ 10 ∷ []) t v a r → Printed (blank-decimal u) s t at a → m ≡ true → Printed (spent-line u m) s v at r
-  unfolding spent-line mark-end
-  spent-marked k h e = rw e (joined (blank-decimal u) (mark-end true) s t v at a r k h)
-
-  pub spent-unmarked : Printed (32 ∷ 48 ∷ 10 ∷ []) t v a r → Printed (blank-decimal u) s t at a → m ≡ false → Printed (spent-line u m) s v at r
-  unfolding spent-line mark-end
-  spent-unmarked k h e = rw e (joined (blank-decimal u) (mark-end false) s t v at a r k h)
-
   pub same-printed : Printed (spent-line u m) t v a r → Printed (115 ∷ 97 ∷ 109 ∷ 101 ∷ []) s t at a → Printed (line-of (same u m)) s v at r
   unfolding line-of
   same-printed k h = joined (115 ∷ 97 ∷ 109 ∷ 101 ∷ []) (spent-line u m) s t v at a r k h

@@ -1,23 +1,13 @@
 -- What is printed for two lines.
 use Prim.Native.Nat.{ℕ}
-use mathlib.Core.Bool.{Bool, true, false, _&&_}
+use mathlib.Core.Bool.{true, false, _&&_}
 use mathlib.Core.List.{List, [], _∷_, _++_}
 use lib.Dec.{eqb, leb}
 use lib.ListN.{getD, drop}
 use Rattle.refusals.specs.Numbers.{number-of}
 use Rattle.lines.specs.Hex.{hex-of}
-use Rattle.lines.specs.Text.{blank-decimal, no-number, no-line}
+use Rattle.lines.specs.Text.{spent-line, no-number, no-line}
 use Rattle.rule_lines.specs.Said.{Said, same, changed, refused, said}
-
--- a blank, the mark as 0 or 1, and the line's end
-unfoldable pub mark-end : Bool → List ℕ
-mark-end true = 32 ∷ 49 ∷ 10 ∷ []
-mark-end false = 32 ∷ 48 ∷ 10 ∷ []
-
--- units and mark
-unfoldable pub spent-line : ℕ → Bool → List ℕ
-unfolding blank-decimal mark-end
-spent-line units mark = blank-decimal units ++ mark-end mark
 
 -- `same` or `changed` and the tree, units and mark; or `no` and the refusal's number
 unfoldable pub line-of : Said → List ℕ

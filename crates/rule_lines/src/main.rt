@@ -19,7 +19,7 @@ ghost use Rattle.rules.specs.Work.{spentOf};
 ghost use Rattle.optimiser.specs.Worked.{Fresh};
 ghost use Rattle.lines.specs.Text.{Printed};
 ghost use Rattle.rule_lines.specs.Said.{same, changed, written, said, Applied};
-ghost use Rattle.rule_lines.specs.Line.{spent-line, line-of, rule-of, line-for};
+ghost use Rattle.rule_lines.specs.Line.{line-of, rule-of, line-for};
 
 // ---- one rule on a form
 
@@ -53,31 +53,21 @@ fn worked(form: &[u8], room: &mut [u8], rule: usize) -> Work
 
 // ---- its line
 
-// Prints units and mark.
-fn print_spent(w: Work, text: &mut [u8], at: usize) -> usize
-    ensures { λ r. ⌜ Printed (spent-line (w .ch .units) (w .mark)) (now (text .entry)) (now (text .exit)) at r ⌝ }
-{
-    let c = w.ch;
-    let a = lines::print_number(text, at, c.units as u64);
-    if w.mark {
-        return lines::print_word(text, a, b" 1\n");
-    }
-    lines::print_word(text, a, b" 0\n")
-}
-
 fn print_same(w: Work, text: &mut [u8], at: usize) -> usize
     ensures { λ r. ⌜ Printed (line-of (same (w .ch .units) (w .mark))) (now (text .entry)) (now (text .exit)) at r ⌝ }
 {
+    let c = w.ch;
     let a = lines::print_word(text, at, b"same");
-    print_spent(w, text, a)
+    lines::print_spent(text, a, c.units as u64, w.mark)
 }
 
 fn print_tree(tree: &[u8], w: Work, text: &mut [u8], at: usize) -> usize
     ensures { λ r. ⌜ Printed (line-of (changed (now (tree .entry)) (w .ch .units) (w .mark))) (now (text .entry)) (now (text .exit)) at r ⌝ }
 {
+    let c = w.ch;
     let a = lines::print_word(text, at, b"changed ");
     let b = lines::print_hex(text, a, tree);
-    print_spent(w, text, b)
+    lines::print_spent(text, b, c.units as u64, w.mark)
 }
 
 // Prints the new tree, which stands at m, where the output has room for it.

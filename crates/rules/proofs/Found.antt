@@ -9,7 +9,6 @@ use Rattle.meaning.proofs.RuleDiffers.{Unmatched, none-matched, too-many}
 use Rattle.store.specs.declared.Charges.{Charges}
 use Rattle.store.specs.Nodes.{treeAt}
 use Rattle.store.specs.Store.{Ready}
-use Rattle.store.specs.Makers.{Grown}
 use Rattle.pattern.specs.declared.Bindings.{Bindings}
 use Rattle.pattern.specs.declared.Match.{Match}
 use Rattle.pattern.specs.declared.Match.the-variants.{Matched, NoMatch, TooManyNames}
@@ -32,9 +31,6 @@ module _ (f s s′ : List ℕ) (c : Charges) (g : Got) (o : Option Tree) (h : Go
   pub found-none : g ≡ Nothing → o ≡ none
   unfolding gotAt
   found-none e = let z : none ≡ o = rw e at (h .answer) in sym z
-
-  pub found-grown : Grown f s s′ c c
-  found-grown = h .grown
 
 -- ---- a match
 

@@ -84,9 +84,6 @@ module _ (f s : List ℕ) (c : Charges) (m l r : ℕ) (q : Cell) (ep : q ≡ Pai
   pub below-right : (k : ℕ) → m ≡ k → r < k
   below-right k e = let z : r < m = ready.fall-right f s c m l r q ep eq in omega arith
 
-  lr : Ready f s c l
-  lr = ready.ready-left f s c m l r q ep eq rd
-
   rr : Ready f s c r
   rr = ready.ready-right f s c m l r q ep eq rd
 

@@ -1,13 +1,12 @@
--- Building lists: what the loop of enlist_node keeps, two makers in a row, and laws of enlist-onto.
+-- Building lists: what the loop of enlist_node keeps, and two makers in a row.
 use mathlib.Core.Path.{_≡_, refl, _∙_, ap, ap₂}
-use mathlib.Core.List.{List, [], _∷_, _++_, map}
-use Prim.Native.Nat.{ℕ, zero, suc, _+_, _-_, _*_, _<_, _≤_}
+use mathlib.Core.List.{List, [], _∷_, map}
+use Prim.Native.Nat.{ℕ, suc, _+_, _-_, _*_, _<_, _≤_}
 use native.Mathlib.Omega.{arith}
-use native.Mathlib.Numerals.{add-one}
-use lib.ListN.{getD, length, take, drop, set, length-set, drop-of-length-le}
-use lib.Seq.{drop-cons, getD-take, getD-set-same, getD-set-other, length-take-le, take-suc-set}
+use lib.ListN.{getD, length, take, drop, drop-of-length-le}
+use lib.Seq.{drop-cons, getD-take, length-take-le}
 use Rattle.refusals.specs.declared.Refusal.{Refusal}
-use Rattle.meaning.specs.Tree.{Tree, atom, pair, enlist, quote}
+use Rattle.meaning.specs.Tree.{Tree, atom, pair, quote}
 use Rattle.meaning.specs.Limits.{unit-limit, pair-cost, atom-cost}
 use Rattle.store.specs.declared.Charges.{Charges}
 use Rattle.store.specs.declared.Made.{Made}
@@ -15,67 +14,9 @@ use Rattle.store.specs.declared.Made.the-variants.{Node, Refused}
 use Rattle.store.specs.Nodes.{treeAt}
 use Rattle.store.specs.Store.{Held, Ready}
 use Rattle.store.specs.Makers.{Grown, Stands, Bought, Over, MadeOk}
-use Rattle.store.proofs.Places.{split}
 use Rattle.store.proofs.Ready.{grown-none, grown-both, grown-ready, grown-tree}
 use Rattle.store.proofs.Charging.{made-node, made-over}
 use Rattle.sexp.specs.Lists.{enlist-onto, Items}
-
--- ---- laws of enlist-onto
-
-pub onto-nil : (ts : List Tree) → enlist-onto ts (atom []) ≡ enlist ts
-unfolding enlist-onto enlist
-onto-nil [] = refl
-onto-nil (t ∷ ts) = ap (pair t) (onto-nil ts)
-
-pub onto-append : (ts us : List Tree) (x : Tree) → enlist-onto (ts ++ us) x ≡ enlist-onto ts (enlist-onto us x)
-unfolding enlist-onto
-onto-append [] us x = refl
-onto-append (t ∷ ts) us x = ap (pair t) (onto-append ts us x)
-
--- ---- nodes kept in a row
-
-pub items-none : (s : List ℕ) (c : Charges) (items : List ℕ) → Items s c items 0
-items-none s c items = record { within = omega arith; nodes = λ j h. absurd (omega arith); old = λ j h. absurd (omega arith) }
-
--- one more
-pub items-more : (f s : List ℕ) (c : Charges) (items : List ℕ) (k q : ℕ) → Items s c items k → Ready f s c q → k < length items → Items s c (set items k q) (k + 1)
-items-more f s c items k q it r o = record {
-  within = let z : length (set items k q) ≡ length items = length-set items k q in omega arith;
-  nodes = λ j h. split j k (λ u. rw (other j u) (it .nodes j u)) (λ u. let e : j ≡ k = omega arith in rw (e, here) (r .node));
-  old = λ j h. split j k (λ u. rw (other j u) (it .old j u)) (λ u. let e : j ≡ k = omega arith in rw (e, here) (r .old));
-}
-  where
-    here : getD (set items k q) k 0 ≡ q
-    here = getD-set-same items k q 0 o
-
-    other : (j : ℕ) → j < k → getD (set items k q) j 0 ≡ getD items j 0
-    other j h = getD-set-other items k j q 0 (omega arith)
-
-pub items-more-trees : (f s items : List ℕ) (k q : ℕ) → k < length items → map (treeAt f s) (take (k + 1) (set items k q)) ≡ map (treeAt f s) (take k items) ++ (treeAt f s q ∷ [])
-items-more-trees f s items k q o = rw (add-one, take-suc-set items k q o) (map-end (take k items))
-  where
-    map-end : (l : List ℕ) → map (treeAt f s) (l ++ (q ∷ [])) ≡ map (treeAt f s) l ++ (treeAt f s q ∷ [])
-    map-end [] = refl
-    map-end (x ∷ l) = ap (treeAt f s x ∷_) (map-end l)
-
--- a change of the store keeps them, and their trees
-module _ (f s s′ : List ℕ) (c c′ : Charges) (items : List ℕ) (k : ℕ) (g : Grown f s s′ c c′) (it : Items s c items k) where
-  pub items-grown : Items s′ c′ items k
-  items-grown =
-      let o : c .end ≤ c′ .end = g .ends in
-      record {
-        within = it .within;
-        nodes = λ j h. let z : getD items j 0 < c .end = it .old j h in g .nodes (getD items j 0) (it .nodes j h) (omega arith);
-        old = λ j h. let z : getD items j 0 < c .end = it .old j h in omega arith;
-      }
-
-  pub items-trees : map (treeAt f s′) (take k items) ≡ map (treeAt f s) (take k items)
-  items-trees = go items k (λ j h. g .trees (getD items j 0) (it .nodes j h) (it .old j h)) (it .within)
-    where
-      go : (l : List ℕ) (n : ℕ) → ((j : ℕ) → j < n → treeAt f s′ (getD l j 0) ≡ treeAt f s (getD l j 0)) → n ≤ length l → map (treeAt f s′) (take n l) ≡ map (treeAt f s) (take n l)
-      go l zero h o = refl
-      go [] (suc n) h o = refl
-      go (x ∷ l) (suc n) h o = ap₂ _∷_ (h 0 (omega arith)) (go l n (λ j i. h (suc j) (omega arith)) (omega arith))
 
 -- ---- the loop
 

@@ -19,7 +19,7 @@ use Rattle.store.specs.declared.Made.{Made}
 use Rattle.store.specs.declared.Made.the-variants.{Node, Refused}
 use Rattle.store.specs.Cells.{pick}
 use Rattle.store.specs.Store.{Held, Ready, Paid, free-limit}
-use Rattle.store.specs.Makers.{Grown, Stands, Put, spend, lend, charged, Bought, Over, MadeOk, LaidOk}
+use Rattle.store.specs.Makers.{Stands, Put, spend, lend, charged, Bought, Over, MadeOk, LaidOk}
 use Rattle.store.proofs.Ready.{grown-none, nil-ready}
 
 -- ---- what charge answers
@@ -123,16 +123,6 @@ module _ (f s : List ℕ) (c c₁ : Charges) (k : ℕ) (a : Charged) (o : a ≡ 
 
   pub paid-charged : Held f s c → (z : ℕ) → 8 * z ≤ 15 * k → Paid c₁ z
   paid-charged h z p = rw (w .is) (paid-spent k h z p)
-
-  -- a charge alone changes nothing else
-  pub grown-charged : Held f s c → Grown f s s c c₁
-  grown-charged h = record {
-    held = held-charged h;
-    long = refl;
-    ends = let e₁ : c₁ .end ≡ c .end = ap (λ (z : Charges). z .end) (w .is) in omega arith;
-    nodes = λ m x u. x;
-    trees = λ m x u. refl;
-  }
 
   pub bought : (t : List ℕ) (d : Charges) (n : ℕ) (x : Tree) → Put f s t c₁ d x → n ≡ c₁ .end → MadeOk f s t c k x (Node n d)
   unfolding MadeOk

@@ -24,9 +24,6 @@ bought-none t g r e = record { stands = record { grown = g; ready = r; tree = e 
 
 -- the store only grew since: what was bought before is there
 module _ {f s s₁ : List ℕ} {c c₁ : Charges} {k q : ℕ} {t : Tree} (h : Bought f s s₁ c c₁ k q t) where
-  pub bought-grown : Grown f s s₁ c c₁
-  bought-grown = h .stands .grown
-
   pub bought-ready : {m : ℕ} → Ready f s c m → Ready f s₁ c₁ m
   bought-ready r = grown-ready (h .stands .grown) r
 
