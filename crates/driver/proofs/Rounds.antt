@@ -63,7 +63,7 @@ module _ (f : List ℕ) (p : Patterns) (nest : ℕ) (room : List ℕ) (w : Work)
     input-fine = fine-same f room r₁ w (b .w) p r h (s .grown) few
 
     node-fine : Fine f r₁ (b .w) p (b .node)
-    node-fine = fine-kept f room r₁ w (b .w) p r (b .node) h (s .grown) (s .ready) few (s .narrow)
+    node-fine = fine-kept f room r₁ w (b .w) p r (b .node) h (s .grown) (s .ready) few
 
     answered : (c : Bool) → seems-constant (treeAt f r₁ (b .node)) ≡ c → Answered f r₁ r₁ (b .w .ch) c (seems-constant (treeAt f r₁ (b .node)))
     answered c e = record { grown = grown-none f r₁ (b .w .ch) (s .ready .held); answer = sym e }

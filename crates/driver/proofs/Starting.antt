@@ -6,7 +6,6 @@ use lib.ListN.{length}
 use native.Mathlib.Omega.{arith}
 use Rattle.meaning.specs.Limits.{nesting-limit}
 use Rattle.meaning.specs.Driver.{optimize-sexp}
-use Rattle.meaning.proofs.Atoms.{Narrow}
 use Rattle.store.specs.declared.Charges.{Charges}
 use Rattle.store.specs.Nodes.{treeAt}
 use Rattle.store.specs.Store.{Ready}
@@ -23,8 +22,8 @@ pub start-valid : (f s : List ℕ) (st : State) → st .used ≡ 0 → length (s
 start-valid f s st e l = sounds l (omega arith) (λ i o. absurd (omega (arith, e)))
 
 module _ (f s : List ℕ) (w : Work) (c : Charges) (n : ℕ) (e : w ≡ fresh-work c) where
-  pub start-fine : (p : Patterns) → Ready f s c n → Patterned f s c p → Narrow (treeAt f s n) → Fine f s w p n
-  start-fine p r a b = rw e (record { ready = r; patterned = a; passes = omega arith; narrow = b })
+  pub start-fine : (p : Patterns) → Ready f s c n → Patterned f s c p → Fine f s w p n
+  start-fine p r a = rw e (record { ready = r; patterned = a; passes = omega arith })
 
   pub started : (t : List ℕ) (v : Work) → Did f s t w (treeAt f s n) (optimize-sexp (65 - 1) (treeAt f s n) (spentOf w)) v
       → Did f s t (fresh-work c) (treeAt f s n) (optimize-sexp nesting-limit (treeAt f s n) (spentOf (fresh-work c))) v

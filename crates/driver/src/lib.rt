@@ -15,7 +15,6 @@ ghost use Prim.Native.Nat.{_-_, _≤_, _<_};
 ghost use lib.ListN.{length};
 ghost use Rattle.meaning.specs.Limits.{nesting-limit};
 ghost use Rattle.meaning.specs.Driver.{optimize-sexp};
-ghost use Rattle.meaning.proofs.Atoms.{Narrow};
 ghost use Rattle.store.specs.Nodes.{treeAt};
 ghost use Rattle.store.specs.Store.{Ready};
 ghost use Rattle.patterns.specs.Patterns.{Patterned};
@@ -252,7 +251,7 @@ fn fresh(ch: Charges) -> State
 
 // `optimize_sexp`: the outermost call.
 pub fn optimize_node(form: &[u8], room: &mut [u8], p: Patterns, ch: Charges, n: usize) -> Work
-    requires { ⌜ Ready (now form) (now room) ch n × Patterned (now form) (now room) ch p × Narrow (treeAt (now form) (now room) n) ⌝ }
+    requires { ⌜ Ready (now form) (now room) ch n × Patterned (now form) (now room) ch p ⌝ }
     ensures { λ w. ⌜ Did (now (form .entry)) (now (room .entry)) (now (room .exit)) (fresh-work ch) (treeAt (now (form .entry)) (now (room .entry)) n) (optimize-sexp nesting-limit (treeAt (now (form .entry)) (now (room .entry)) n) (spentOf (fresh-work ch))) w ⌝ }
 {
     let s = fresh(ch);
@@ -299,7 +298,7 @@ pub fn apply_node(
     n: usize,
     rule: usize,
 ) -> Work
-    requires { ⌜ Ready (now form) (now room) ch n × Patterned (now form) (now room) ch p × Narrow (treeAt (now form) (now room) n) × (0 < rule) × (rule ≤ 8) ⌝ }
+    requires { ⌜ Ready (now form) (now room) ch n × Patterned (now form) (now room) ch p × (0 < rule) × (rule ≤ 8) ⌝ }
     ensures { λ w. ⌜ Did (now (form .entry)) (now (room .entry)) (now (room .exit)) (fresh-work ch) (treeAt (now (form .entry)) (now (room .entry)) n) (one-rule rule (treeAt (now (form .entry)) (now (room .entry)) n) (spentOf (fresh-work ch))) w ⌝ }
 {
     let mut s = fresh(ch);

@@ -16,7 +16,6 @@ use Rattle.meaning.specs.Limits.{pass-limit}
 use Rattle.meaning.specs.Meter.{Out, done, stop, Spent}
 use Rattle.meaning.specs.Rules.{non-constant}
 use Rattle.meaning.specs.Driver.{optimize-sexp}
-use Rattle.meaning.proofs.Atoms.{Narrow}
 use Rattle.meaning.proofs.SameLaws.{equal-to-same}
 use Rattle.meaning.proofs.CostDriver.{driver-fits}
 use Rattle.meaning.proofs.Operands.{join, ending, as-wanted}
@@ -40,7 +39,7 @@ use Rattle.driver_parts.specs.Turns.{again, Fine}
 use Rattle.driver_parts.specs.Walk.{test-of, walk, made-list, sets-flag, wrap, Made-at, Walked}
 use Rattle.driver_parts.proofs.Saying.{walked-none, walked-made, walked-stopped, walk-none, walk-stopped, walk-stops, walks-on}
 use Rattle.driver_parts.proofs.Wraps.{wrap-none, wrap-stop, wrap-kept, wrap-put}
-use Rattle.driver_parts.proofs.Kept.{fine-kept, narrow-parts, fine-room, fine-fits}
+use Rattle.driver_parts.proofs.Kept.{fine-kept, fine-room, fine-fits}
 
 -- ---- the flag
 
@@ -227,14 +226,11 @@ module _ (f : List ℕ) (p : Patterns) (nest list : ℕ) (count flag : Bool) (ro
     list-is : treeAt f room q ≡ pair (treeAt f room h) (treeAt f room t)
     list-is = look-pair f room (w .ch) q h t a pa ea
 
-    parts : Narrow (treeAt f room h) × Narrow (treeAt f room t)
-    parts = narrow-parts (treeAt f room h) (treeAt f room t) (subst Narrow list-is (i .fine .narrow))
-
     pub elem-room : Room room h
     elem-room = ready.room f room (w .ch) h elem-ready
 
     pub elem-fine : Fine f room w p h
-    elem-fine = record { ready = elem-ready; patterned = i .fine .patterned; passes = i .fine .passes; narrow = parts .0 }
+    elem-fine = record { ready = elem-ready; patterned = i .fine .patterned; passes = i .fine .passes }
 
     pub elem-small : h < 65536
     elem-small = small f room (w .ch) h elem-ready
@@ -254,7 +250,7 @@ module _ (f : List ℕ) (p : Patterns) (nest list : ℕ) (count flag : Bool) (ro
         let e′ : join (treeAt f r₁ x) (walk count (again nest) b (treeAt f r₁ t) (spentOf w₁)) ≡ walk count (again nest) seen (treeAt f room q) (spentOf w) =
         ap (λ (y : Tree). join (treeAt f r₁ x) (walk count (again nest) b y (spentOf w₁))) (grown-tree g tail-ready) ∙ e in
         record {
-          fine = fine-kept f room r₁ w w₁ p q t (i .fine) g (grown-ready g tail-ready) l (subst Narrow (sym (grown-tree g tail-ready)) (parts .1));
+          fine = fine-kept f room r₁ w w₁ p q t (i .fine) g (grown-ready g tail-ready) l;
           nests = i .nests;
           grown = grown-both (i .grown) g;
           few = omega arith;

@@ -1,16 +1,12 @@
 -- What a function of the driver asks is kept as the store grows. Assumes nothing.
 use mathlib.Core.List.{List}
-use mathlib.Core.Path.{sym, subst}
 use Prim.Native.Nat.{ℕ, _-_, _≤_}
-use Rattle.meaning.specs.Tree.{Tree, pair}
 use Rattle.meaning.specs.Limits.{pass-limit}
-use Rattle.meaning.proofs.Atoms.{Narrow}
 use Rattle.meaning.proofs.CostRun.{Fits}
 use Rattle.store.specs.Cells.{Room}
-use Rattle.store.specs.Nodes.{treeAt}
 use Rattle.store.specs.Store.{Ready}
 use Rattle.store.specs.Makers.{Grown}
-use Rattle.store.proofs.Ready.{room, grown-ready, grown-tree}
+use Rattle.store.proofs.Ready.{room, grown-ready}
 use Rattle.patterns.specs.declared.Patterns.{Patterns}
 use Rattle.patterns.proofs.Laws.{patterned-grown}
 use Rattle.rules.specs.declared.Work.{Work}
@@ -19,17 +15,12 @@ use Rattle.driver_parts.specs.Turns.{Fine}
 
 -- another node, and passes within the limit
 pub fine-kept : (f s s′ : List ℕ) (w w′ : Work) (p : Patterns) (m n : ℕ) → Fine f s w p m → Grown f s s′ (w .ch) (w′ .ch) → Ready f s′ (w′ .ch) n → w′ .passes ≤ pass-limit
-    → Narrow (treeAt f s′ n) → Fine f s′ w′ p n
-fine-kept f s s′ w w′ p m n h g r l a = record { ready = r; patterned = patterned-grown g (h .patterned); passes = l; narrow = a }
+    → Fine f s′ w′ p n
+fine-kept f s s′ w w′ p m n h g r l = record { ready = r; patterned = patterned-grown g (h .patterned); passes = l }
 
 -- the same node
 pub fine-same : (f s s′ : List ℕ) (w w′ : Work) (p : Patterns) (n : ℕ) → Fine f s w p n → Grown f s s′ (w .ch) (w′ .ch) → w′ .passes ≤ pass-limit → Fine f s′ w′ p n
-fine-same f s s′ w w′ p n h g l = fine-kept f s s′ w w′ p n n h g (grown-ready g (h .ready)) l (subst Narrow (sym (grown-tree g (h .ready))) (h .narrow))
-
--- the parts of a pair
-pub narrow-parts : (l r : Tree) → Narrow (pair l r) → Narrow l × Narrow r
-unfolding Narrow
-narrow-parts l r h = h
+fine-same f s s′ w w′ p n h g l = fine-kept f s s′ w w′ p n n h g (grown-ready g (h .ready)) l
 
 pub fine-room : (f s : List ℕ) (w : Work) (p : Patterns) (n : ℕ) → Fine f s w p n → Room s n
 fine-room f s w p n h = room f s (w .ch) n (h .ready)

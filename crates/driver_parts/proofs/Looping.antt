@@ -31,7 +31,7 @@ use Rattle.rules.proofs.Does.{did-stopped, says-same, says-changed, says-stoppe
 use Rattle.driver_parts.specs.Turns.{again, optimizer, Fine, is-pair, Started, Ends-at, Passes-out, Begins, Begun, outcome-of}
 use Rattle.driver_parts.proofs.Saying.{say-same, say-changed, say-stopped}
 use Rattle.driver_parts.proofs.Kept.{fine-kept, fine-same, fine-fits}
-use Rattle.driver_parts.proofs.Numbers.{rules-from, rules-more, rules-none, rule-fits, rule-passes, rule-narrow}
+use Rattle.driver_parts.proofs.Numbers.{rules-from, rules-more, rules-none, rule-fits, rule-passes}
 
 -- ---- the start of a turn, by its outcome
 
@@ -342,9 +342,7 @@ module _ (f : List ℕ) (p : Patterns) (nest : ℕ) (room₀ : List ℕ) (w₀ :
       pub turn-changed : Looping f p nest room₀ w₀ n r₁ w₁ m 0 true
       turn-changed = record {
         start = i .start;
-        fine =
-            fine-kept f room r₁ w w₁ p r m (i .fine) (new .grown) (new .ready) (later (treeAt f r₁ m) (new .gives) .1)
-            (rule-narrow (65 - (nest + 1)) (9 - left) x (treeAt f r₁ m) (spentOf w) (spentOf w₁) (i .fine .narrow) (new .gives));
+        fine = fine-kept f room r₁ w w₁ p r m (i .fine) (new .grown) (new .ready) (later (treeAt f r₁ m) (new .gives) .1);
         nests = i .nests;
         grown = grown-both (i .grown) (new .grown);
         few = omega arith;

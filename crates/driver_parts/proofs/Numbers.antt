@@ -8,10 +8,6 @@ use lib.Seq.{drop-cons}
 use Rattle.meaning.specs.Tree.{Tree}
 use Rattle.meaning.specs.Meter.{W, done, Spent, give}
 use Rattle.meaning.specs.Driver.{optimizers, optimize-sexp}
-use Rattle.meaning.proofs.Atoms.{Narrow}
-use Rattle.meaning.proofs.Yields.{y-give}
-use Rattle.meaning.proofs.NarrowRules.{KeepsNarrow, cons-narrow, constant-narrow, cons-q-a-narrow, var-change-narrow, children-narrow, path-narrow, quote-null-narrow, apply-null-narrow}
-use Rattle.meaning.proofs.NarrowDriver.{optimize-narrow}
 use Rattle.meaning.proofs.Cost.{Steady, steady-fits, steady-give}
 use Rattle.meaning.proofs.CostRun.{of-run, Fits}
 use Rattle.meaning.proofs.CostDriver.{to-be-steady, steady-driver}
@@ -67,27 +63,6 @@ rule-passes d k t u s x f h =
 pub rule-marks : (d k : ℕ) (t u : Tree) (s x : Spent) → Fits s → optimizer (optimize-sexp d) k t s ≡ done u x → Marked s x
 unfolding optimizer
 rule-marks d k t u s x f h = still-marked (steady-at d (k - 1) t) s s x u f h (λ e. e)
-
--- ---- a rule keeps a tree narrow
-
-driver-keeps : (d : ℕ) → KeepsNarrow (optimize-sexp d)
-driver-keeps d t h = record { result = λ s s′ u e. optimize-narrow d t u s s′ e h }
-
-narrow-at : (d j : ℕ) → KeepsNarrow (getD (optimizers (optimize-sexp d)) j give)
-unfolding optimizers
-narrow-at d zero t h = y-give _ (cons-narrow t h)
-narrow-at d (suc zero) t h = constant-narrow t h
-narrow-at d (suc (suc zero)) t h = y-give _ (cons-q-a-narrow t h)
-narrow-at d (suc (suc (suc zero))) t h = var-change-narrow (optimize-sexp d) (driver-keeps d) t h
-narrow-at d (suc (suc (suc (suc zero)))) t h = children-narrow (optimize-sexp d) (driver-keeps d) t h
-narrow-at d (suc (suc (suc (suc (suc zero))))) t h = path-narrow t h
-narrow-at d (suc (suc (suc (suc (suc (suc zero)))))) t h = y-give _ (quote-null-narrow t h)
-narrow-at d (suc (suc (suc (suc (suc (suc (suc zero))))))) t h = y-give _ (apply-null-narrow t h)
-narrow-at d (suc (suc (suc (suc (suc (suc (suc (suc j)))))))) t h = y-give t h
-
-pub rule-narrow : (d k : ℕ) (t u : Tree) (s x : Spent) → Narrow t → optimizer (optimize-sexp d) k t s ≡ done u x → Narrow u
-unfolding optimizer
-rule-narrow d k t u s x n h = narrow-at d (k - 1) t n .result s x u h
 
 -- ---- a rule that does not call the driver does not ask which driver it is
 

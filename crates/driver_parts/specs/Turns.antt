@@ -9,7 +9,6 @@ use Rattle.meaning.specs.Tree.{Tree, atom, pair}
 use Rattle.meaning.specs.Limits.{pass-limit}
 use Rattle.meaning.specs.Meter.{W, done, stop, give, one-pass, mark-if, _>>_}
 use Rattle.meaning.specs.Driver.{optimizers, optimize-sexp}
-use Rattle.meaning.proofs.Atoms.{Narrow}
 use Rattle.store.specs.declared.Charges.{Charges}
 use Rattle.store.specs.Nodes.{treeAt}
 use Rattle.store.specs.Store.{Ready}
@@ -36,12 +35,11 @@ pub record Simple (k : ℕ) : Type 0 where
   pub not-4 : k ≡ 4 → ⊥
   pub not-5 : k ≡ 5 → ⊥
 
--- what a function that works the node n asks: n is a node that stands for a tree of short atoms, and the passes are within their limit
+-- what a function that works the node n asks: n is a node, the patterns are laid, and the passes are within their limit
 pub record Fine (f s : List ℕ) (w : Work) (p : Patterns) (n : ℕ) : Type 0 where
   pub ready : Ready f s (w .ch) n
   pub patterned : Patterned f s (w .ch) p
   pub passes : w .passes ≤ pass-limit
-  pub narrow : Narrow (treeAt f s n)
 
 -- rule 4 gives back the changed body
 unfoldable pub kept : Bool → Tree → W Tree

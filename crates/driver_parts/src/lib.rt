@@ -8,7 +8,6 @@ ghost use mathlib.Core.Path.{_≡_};
 ghost use mathlib.Core.Bool.{_||_};
 ghost use Rattle.meaning.specs.Meter.{done, give};
 ghost use Rattle.meaning.specs.Rules.{non-constant};
-ghost use Rattle.meaning.proofs.Atoms.{Narrow};
 ghost use Rattle.meaning.proofs.Operands.{ending};
 ghost use Rattle.store.specs.Cells.{Room};
 ghost use Rattle.store.specs.Nodes.{treeAt};
@@ -104,7 +103,7 @@ pub fn keep(form: &[u8], room: &mut [u8], w: Work, r: usize, m: usize, low: bool
 
 // Rules 1 to 3 and 6 to 8, by number.
 pub fn simple(form: &[u8], room: &mut [u8], p: Patterns, w: Work, n: usize, rule: usize) -> Work
-    requires { ⌜ Ready (now form) (now room) (w .ch) n × Patterned (now form) (now room) (w .ch) p × Narrow (treeAt (now form) (now room) n) × Simple rule ⌝ }
+    requires { ⌜ Ready (now form) (now room) (w .ch) n × Patterned (now form) (now room) (w .ch) p × Simple rule ⌝ }
     ensures { λ q. ⌜ Did (now (form .entry)) (now (room .entry)) (now (room .exit)) w (treeAt (now (form .entry)) (now (room .entry)) n) (optimizer give rule (treeAt (now (form .entry)) (now (room .entry)) n) (spentOf w)) q ⌝ }
 {
     if rule == 1 {

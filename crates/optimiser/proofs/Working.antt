@@ -10,8 +10,6 @@ use Rattle.meaning.specs.Meter.{done}
 use Rattle.meaning.specs.Form.{read-form}
 use Rattle.meaning.specs.Driver.{optimize-sexp}
 use Rattle.meaning.specs.Run.{after-reading, worked}
-use Rattle.meaning.proofs.Atoms.{Narrow}
-use Rattle.meaning.proofs.ReadWrite.{form-read}
 use Rattle.meaning.proofs.RunLaws.{worked-read}
 use Rattle.store.specs.declared.Charges.{Charges}
 use Rattle.store.specs.declared.Made.{Made}
@@ -76,9 +74,6 @@ module _ (f s s₁ : List ℕ) (c : Charges) (p : Patterns) (h : Fresh f s c p) 
 
     form-is : read-form f 0 ≡ done (treeAt f s₁ q) (left-from f (length f) (length f) (d .units))
     form-is = whole ∙ to .is
-
-    pub read-narrow : Narrow (treeAt f s₁ q)
-    read-narrow = form-read f (treeAt f s₁ q) (left-from f (length f) (length f) (d .units)) form-is .narrow
 
     worked-as : worked f ≡ optimize-sexp nesting-limit (treeAt f s₁ q) (spentOf (fresh-work d))
     worked-as = worked-read f (treeAt f s₁ q) (left-from f (length f) (length f) (d .units)) form-is

@@ -1,5 +1,5 @@
 -- The plans of rules 4 and 5, and of a rule by its number. Assumes nothing.
-use mathlib.Core.Path.{_≡_, refl, sym, _∙_, ap, subst}
+use mathlib.Core.Path.{_≡_, refl, sym, _∙_, ap}
 use mathlib.Core.List.{List}
 use mathlib.Core.Bool.{Bool, true, false, not}
 use Prim.Native.Nat.{ℕ, _<_, _≤_}
@@ -9,7 +9,6 @@ use Rattle.meaning.specs.Constant.{seems-constant}
 use Rattle.meaning.specs.Substitute.{is-proper}
 use Rattle.meaning.specs.Rules.{settle, var-change-optimizer-cons-eval, children-optimizer}
 use Rattle.meaning.specs.Driver.{optimizers}
-use Rattle.meaning.proofs.Atoms.{Narrow}
 use Rattle.meaning.proofs.OperandsOutcomes as walks
 use Rattle.store.specs.Cells.{Room}
 use Rattle.store.specs.Nodes.{treeAt}
@@ -36,11 +35,10 @@ module _ (f s : List ℕ) (w : Work) (new : ℕ) (h : Ready f s (w .ch) new) (t 
   now-tree : treeAt f t new ≡ treeAt f s new
   now-tree = grown-tree (a .grown) h
 
-  settles : (low : Bool) → Narrow (treeAt f s new) → (x : Tree) → Settles f s t w x (λ (next : Tree → W Tree). settle next x (treeAt f s new) low (spentOf w)) (record { w = w; node = new; low = low })
-  settles low k x = record {
+  settles : (low : Bool) (x : Tree) → Settles f s t w x (λ (next : Tree → W Tree). settle next x (treeAt f s new) low (spentOf w)) (record { w = w; node = new; low = low })
+  settles low x = record {
     grown = a .grown;
     ready = grown-ready (a .grown) h;
-    narrow = subst Narrow (sym now-tree) k;
     passes = refl;
     mark = refl;
     rest = λ next. ap (λ (u : Tree). settle next x u low (spentOf w)) (sym now-tree);
@@ -49,9 +47,9 @@ module _ (f s : List ℕ) (w : Work) (new : ℕ) (h : Ready f s (w .ch) new) (t 
   answers : (c : Bool) → b ≡ c → seems-constant (treeAt f t new) ≡ c
   answers c e = ap seems-constant now-tree ∙ sym (a .answer) ∙ e
 
-  pub settle-constant : (low : Bool) → Narrow (treeAt f s new) → b ≡ true → Settling f s t w new low (Constant (record { w = w; node = new; low = low }))
+  pub settle-constant : (low : Bool) → b ≡ true → Settling f s t w new low (Constant (record { w = w; node = new; low = low }))
   unfolding PlanOk Of-body
-  settle-constant low k e = record { of-body = tt; plan = λ x. record { body = settles low k x; constant = answers true e } }
+  settle-constant low e = record { of-body = tt; plan = λ x. record { body = settles low x; constant = answers true e } }
 
   pub settle-room : Room t new
   settle-room = ready.room f t (w .ch) new (grown-ready (a .grown) h)
@@ -68,9 +66,9 @@ module _ (f s : List ℕ) (w : Work) (new : ℕ) (h : Ready f s (w .ch) new) (t 
       };
     }
 
-    pub settle-lists : Narrow (treeAt f s new) → not v ≡ false → Settling f s t w new low (Listed (record { w = w; node = new; low = low }))
+    pub settle-lists : not v ≡ false → Settling f s t w new low (Listed (record { w = w; node = new; low = low }))
     unfolding PlanOk Of-body
-    settle-lists k pv = record { of-body = tt; plan = λ x. record { body = settles low k x; constant = answers false e; proper = sym ev ∙ not-no v pv } }
+    settle-lists pv = record { of-body = tt; plan = λ x. record { body = settles low x; constant = answers false e; proper = sym ev ∙ not-no v pv } }
 
 -- ---- a plan after other work
 
@@ -79,7 +77,6 @@ module _ (f s s₁ s₂ : List ℕ) (w w₁ : Work) (x : Tree) (def def′ : Rul
   settles-on b k = record {
     grown = grown-both g (k .grown);
     ready = k .ready;
-    narrow = k .narrow;
     passes = k .passes ∙ ep;
     mark = k .mark ∙ em;
     rest = λ next. e next ∙ k .rest next;

@@ -1,5 +1,5 @@
 -- var_change_optimizer_cons_eval: each return and each call. Assumes nothing.
-use mathlib.Core.Path.{_≡_, refl, sym, _∙_, ap, subst}
+use mathlib.Core.Path.{_≡_, refl, sym, _∙_, ap}
 use mathlib.Core.List.{List}
 use mathlib.Core.Bool.{Bool}
 use Prim.Native.Nat.{ℕ, _+_}
@@ -11,9 +11,6 @@ use Rattle.meaning.specs.Limits.{unit-limit}
 use Rattle.meaning.specs.Meter.{W, Out, done, stop, Spent, charge, _>>_}
 use Rattle.meaning.specs.Substitute.{sub-args, sub-cost, reads-low}
 use Rattle.meaning.specs.Rules.{applied-of, applied, not-applied, settle, var-change-optimizer-cons-eval}
-use Rattle.meaning.proofs.Atoms.{Narrow}
-use Rattle.meaning.proofs.Shapes.{applied-shape}
-use Rattle.meaning.proofs.NarrowMatch.{sub-narrow}
 use Rattle.meaning.proofs.MeterLaws.{seq-at, seq-stop}
 use Rattle.store.specs.Nodes.{treeAt}
 use Rattle.store.specs.Store.{Ready}
@@ -35,18 +32,10 @@ use Rattle.rules.specs.Rule.{appliedAt, AppliedIn, AppliedOk}
 use Rattle.rules.proofs.Does.{did-same, did-stopped}
 use Rattle.driver_parts.specs.Turns.{Fine}
 use Rattle.driver_parts.proofs.Wraps.{charge-goes, charge-fails}
-use Rattle.driver_parts.proofs.Kept.{narrow-parts}
 use Rattle.planning.specs.declared.Plan.{Plan}
 use Rattle.planning.specs.declared.Plan.the-variants.{Worked}
 use Rattle.planning.specs.Plans.{PlanOk, Settling}
 use Rattle.planning.proofs.Planning.{plan-on}
-
--- S and ARGS of a narrow (a (q . S) ARGS)
-applied-narrow : (x y z : Tree) → applied-of x ≡ applied y z → Narrow x → Narrow y × Narrow z
-applied-narrow x y z e h =
-    let a = narrow-parts _ _ (subst Narrow (applied-shape x y z e) h) in
-    let b = narrow-parts _ _ (a .1) in
-    (narrow-parts _ _ (b .0) .1, narrow-parts _ _ (b .1) .0)
 
 module _ (f : List ℕ) (p : Patterns) (room : List ℕ) (w : Work) (n : ℕ) (h : Fine f room w p n) (r₀ : List ℕ) (a : Applied) (ok : AppliedOk f room r₀ (w .ch) a (applied-of (treeAt f room n))) where
   abbrev x : Tree
@@ -115,11 +104,6 @@ module _ (f : List ℕ) (p : Patterns) (room : List ℕ) (w : Work) (n : ℕ) (h
 
         pub change-ready : Ready f r₁ (v .ch) (v .node)
         change-ready = done-so .bought .stands .ready
-
-        pub change-narrow : Narrow (treeAt f r₁ (v .node))
-        change-narrow =
-            let c = applied-narrow x y z call (h .narrow) in
-            subst Narrow (sym (done-so .bought .stands .tree)) (sub-narrow y z (c .0) (c .1))
 
         charged : charge (sub-cost y z) (spentOf w) ≡ done tt (spentOf w′)
         charged =

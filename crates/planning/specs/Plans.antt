@@ -8,7 +8,6 @@ use Rattle.meaning.specs.Meter.{W, Out, Spent}
 use Rattle.meaning.specs.Constant.{seems-constant}
 use Rattle.meaning.specs.Substitute.{is-proper}
 use Rattle.meaning.specs.Rules.{settle, children-optimizer}
-use Rattle.meaning.proofs.Atoms.{Narrow}
 use Rattle.store.specs.Nodes.{treeAt}
 use Rattle.store.specs.Store.{Ready}
 use Rattle.store.specs.Makers.{Grown}
@@ -33,7 +32,6 @@ pub record Is-done (f s s′ : List ℕ) (w : Work) (x : Tree) (def : Rule-work)
 pub record Settles (f s s′ : List ℕ) (w : Work) (x : Tree) (def : Rule-work) (b : Body) : Type 0 where
   pub grown : Grown f s s′ (w .ch) (b .w .ch)
   pub ready : Ready f s′ (b .w .ch) (b .node)
-  pub narrow : Narrow (treeAt f s′ (b .node))
   pub passes : b .w .passes ≡ w .passes
   pub mark : b .w .mark ≡ w .mark
   pub rest : (next : Tree → W Tree) → def next ≡ settle next x (treeAt f s′ (b .node)) (b .low) (spentOf (b .w))

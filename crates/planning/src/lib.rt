@@ -7,7 +7,6 @@ use substitute::Sub;
 ghost use mathlib.Core.Path.{_≡_};
 ghost use Prim.Native.Nat.{_<_, _≤_};
 ghost use Rattle.meaning.specs.Rules.{settle, var-change-optimizer-cons-eval, children-optimizer};
-ghost use Rattle.meaning.proofs.Atoms.{Narrow};
 ghost use Rattle.store.specs.Nodes.{treeAt};
 ghost use Rattle.store.specs.Store.{Ready};
 ghost use Rattle.rules.specs.Work.{spentOf};
@@ -33,7 +32,7 @@ pub enum Plan {
 
 // What is to become of the changed body `new`.
 fn settle(form: &[u8], room: &mut [u8], w: Work, new: usize, low: bool) -> Plan
-    requires { ⌜ Ready (now form) (now room) (w .ch) new × Narrow (treeAt (now form) (now room) new) ⌝ }
+    requires { ⌜ Ready (now form) (now room) (w .ch) new ⌝ }
     ensures { λ r. ⌜ Settling (now (form .entry)) (now (room .entry)) (now (room .exit)) w new low r ⌝ }
 {
     let ch = w.ch;

@@ -16,7 +16,7 @@ read-and-work-spec =
     (λ c κs. search needs)  -- read-form-requires
     (λ c. search needs)  -- enum-known-e
     (λ c. search needs)  -- enum-known-n
-    (λ c κs. (search laws.read-ready, search laws.read-patterned, search laws.read-narrow))  -- optimize-node-requires
+    (λ c κs. (search laws.read-ready, search laws.read-patterned))  -- optimize-node-requires
     (λ c κs. search needs)  -- finish-requires
     (λ c. search needs)  -- same-length
     (λ c. search laws.read-refused)  -- returns

@@ -14,6 +14,6 @@ start-rule-spec =
     (λ c κs. search needs)  -- children-optimizer-requires
     (λ c. search needs)  -- same-length-2
     (λ c. planning.starts-5 _ _ _ _ _ _ _ (c .children-optimizer .ensures) (search needs))  -- returns-2
-    (λ c κs. (search needs, search needs, search needs, search planning.other-rule))  -- simple-requires
+    (λ c κs. (search needs, search needs, search planning.other-rule))  -- simple-requires
     (λ c. search needs)  -- same-length-3
     (λ c. planning.starts-other _ _ _ _ _ _ _ (c .before .before .simple .ensures) (search needs) (search needs) (search needs) (search needs)))  -- returns-3

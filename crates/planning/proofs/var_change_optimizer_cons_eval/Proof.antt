@@ -17,7 +17,7 @@ var-change-optimizer-cons-eval-spec =
     (λ c. search needs)  -- enum-known-e
     (λ c κs. search needs)  -- with-requires-2
     (λ c. search needs)  -- enum-known-x
-    (λ c κs. (changing.change-ready _ _ _ _ _ (c .before .before .before .before .before .before .before .before .before .before .before .before .before .before .before .before .before .before .before .pre) _ _ (c .before .before .before .before .before .before .before .before .before .before .before .before .before .before .applied-of .ensures) _ _ (search needs) _ _ (c .before .before .before .before .before .before .before .sub-args .ensures) (c .before .before .before .x .given .0 .0) (search needs), changing.change-narrow _ _ _ _ _ (c .before .before .before .before .before .before .before .before .before .before .before .before .before .before .before .before .before .before .before .pre) _ _ (c .before .before .before .before .before .before .before .before .before .before .before .before .before .before .applied-of .ensures) _ _ (search needs) _ _ (c .before .before .before .before .before .before .before .sub-args .ensures) (c .before .before .before .x .given .0 .0) (search needs)))  -- settle-requires
+    (λ c κs. changing.change-ready _ _ _ _ _ (c .before .before .before .before .before .before .before .before .before .before .before .before .before .before .before .before .before .before .before .pre) _ _ (c .before .before .before .before .before .before .before .before .before .before .before .before .before .before .applied-of .ensures) _ _ (search needs) _ _ (c .before .before .before .before .before .before .before .sub-args .ensures) (c .before .before .before .x .given .0 .0) (search needs))  -- settle-requires
     (λ c. search needs)  -- same-length
     (λ c. search changing.change-none)  -- returns
     (λ c. search needs)  -- same-length-2

@@ -12,7 +12,7 @@ read-and-apply-spec =
     (λ c κs. search needs)  -- read-form-requires
     (λ c. search needs)  -- enum-known-e
     (λ c. search needs)  -- enum-known-n
-    (λ c κs. (search working.read-ready, search working.read-patterned, search working.read-narrow, search needs, search needs))  -- apply-node-requires
+    (λ c κs. (search working.read-ready, search working.read-patterned, search needs, search needs))  -- apply-node-requires
     (λ c. search needs)  -- same-length
     (λ c. search applying.read-refused)  -- returns
     (λ c. search needs)  -- same-length-2
