@@ -40,7 +40,7 @@ x86_emulated() {
     mkdir -p "$1" && echo 'int pthread_getattr_np(unsigned long t, void *a) { (void)t; (void)a; return 38; }' >"$1/no_maps.c" &&
         $x86_cc -O2 -c "$1/no_maps.c" -o "$1/no_maps.o" || x86_stop "The C compiler $x86_cc does not work."
     export CARGO_TARGET_X86_64_UNKNOWN_LINUX_GNU_LINKER=$x86_cc CARGO_TARGET_X86_64_UNKNOWN_LINUX_GNU_RUNNER="$x86_run"
-    export CARGO_TARGET_X86_64_UNKNOWN_LINUX_GNU_RUSTFLAGS="-Clink-arg=$1/no_maps.o"
+    export CARGO_TARGET_X86_64_UNKNOWN_LINUX_GNU_RUSTFLAGS="-Clink-arg=$1/no_maps.o" RUSTDOCFLAGS="-Clink-arg=$1/no_maps.o"
 }
 
 x86_setup() {

@@ -1,9 +1,9 @@
 -- What an answer says is printed. Assumes nothing.
 use Prim.Native.Nat.{ℕ, _+_, _≤_}
-use mathlib.Core.Path.{_≡_, sym, _∙_, ap}
+use mathlib.Core.Path.{_≡_, sym, ap}
 use mathlib.Core.List.{List, [], _∷_, _++_}
-use lib.ListN.{length, take, drop, length-append}
-use lib.Seq.{take-at, length-take-le}
+use lib.ListN.{length, take}
+use lib.Seq.{length-take-le}
 use native.Mathlib.Omega.{arith}
 use Rattle.refusals.specs.declared.Refusal.{Refusal}
 use Rattle.refusals.specs.Numbers.{number-of}
@@ -12,6 +12,7 @@ use Rattle.evaluation.specs.declared.EvalAnswer.the-variants.{Value, Refused}
 use Rattle.evaluation.specs.Bytes.{Outcome, answered, refused, out-after, says, told, Evaluates}
 use Rattle.lines.specs.Text.{Printed, ok-tree, blank-decimal, no-number}
 use Rattle.lines.proofs.Printing.{joined}
+use Rattle.lines.proofs.Front.{Front, front}
 use Rattle.evaluate.specs.Line.{line-of}
 
 pub value-printed : (v s t u x y : List ℕ) (steps units at a b c r : ℕ) → Printed (10 ∷ []) x y c r → Printed (blank-decimal units) u x b c → Printed (blank-decimal steps) t u a b → Printed (ok-tree v) s t at a
@@ -33,9 +34,9 @@ module _ (o : Outcome) (s s′ w w′ : List ℕ) (a : EvalAnswer) (h : Evaluate
             let p : n ≡ length bytes = cc in
             let q : steps ≡ k = cc in
             let r : units ≡ u = cc in
-            let l : length w′ ≡ length bytes + length (drop (length bytes) w) = ap length j ∙ length-append bytes (drop (length bytes) w) in
-            let t : take n w′ ≡ bytes = ap (take n) j ∙ take-at bytes (drop (length bytes) w) n (sym p) in
-            (omega arith, cc)
+            let f : Front bytes w′ n = front bytes w w′ n j p in
+            let t : take n w′ ≡ bytes = f .bytes in
+            (f .within, cc)
         go (refused m) i j = absurd (let z : _≡_ {A = ℕ} 0 1 = cc in omega arith)
 
     pub value-fits : n ≤ length w′
