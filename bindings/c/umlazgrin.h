@@ -1,7 +1,7 @@
 /* Umlazgrin as a C library: the classic Chialisp optimiser (stage 2), an evaluator, a matcher, a reader and a writer of the
  * serialised form, on bytes that the caller lends. Link libumlazgrin.a; of C's library it needs memcpy and memset only.
  *
- * Each function returns 0 for an answer, or the number of a refusal (1 to 14; the matcher also 15 and 16). What it leaves behind
+ * Each function returns 0 for an answer, or the number of a refusal (1 to 14; the matcher also 100 and 101). What it leaves behind
  * is proved of it, for all inputs:
  *   - an answer fills in *report and writes the first bytes of out, as many as the report says, and none after them;
  *   - any other return leaves out and *report as they came in;
@@ -50,8 +50,8 @@ enum umlazgrin_number {
     UMLAZGRIN_PASSES_OUT = 12,      /* a 65,537th pass */
     UMLAZGRIN_TOO_DEEP = 13,        /* a driver call at nesting 65 */
     UMLAZGRIN_OUTPUT_SHORT = 14,    /* result longer than the output */
-    UMLAZGRIN_NO_MATCH = 15,        /* the matcher only: no refusal, the expression is not of the pattern's shape */
-    UMLAZGRIN_TOO_MANY_NAMES = 16   /* the matcher only: no refusal, the pattern asks for a third name */
+    UMLAZGRIN_NO_MATCH = 100,       /* the matcher only: no refusal, the expression is not of the pattern's shape */
+    UMLAZGRIN_TOO_MANY_NAMES = 101  /* the matcher only: no refusal, the pattern asks for a third name */
 };
 
 /* What optimising took. mark is 1 where the finished tree is not promised to mean what the form meant, otherwise 0. */

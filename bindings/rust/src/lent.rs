@@ -91,8 +91,8 @@ pub fn matches(forms: &[u8], first: usize, room: &mut [u8], out: &mut [u8]) -> R
         )
     };
     match number {
-        15 => return Ok(Matched::NoMatch),
-        16 => return Ok(Matched::TooManyNames),
+        100 => return Ok(Matched::NoMatch),
+        101 => return Ok(Matched::TooManyNames),
         _ => refused(number)?,
     }
     let [names, name_1, node_1, name_2, node_2] = report;

@@ -100,13 +100,13 @@ module _ (o : matcher.Outcome) (s w s₁ w₁ q : List ℕ) (a : MatchAnswer) (h
   unfolding matcher.says match-number match-report
   match-refused e n i j = match-told q n (matcher.number (number-of e)) (match-says (not-matched e) i) j refl
 
-  pub match-none : a ≡ NoMatch → Matches o s s₁ w w₁ q q 15
+  pub match-none : a ≡ NoMatch → Matches o s s₁ w w₁ q q 100
   unfolding matcher.says match-number match-report
-  match-none i = match-told q 15 matcher.not-matched (match-says NoMatch i) refl refl
+  match-none i = match-told q 100 matcher.not-matched (match-says NoMatch i) refl refl
 
-  pub match-many : a ≡ TooManyNames → Matches o s s₁ w w₁ q q 16
+  pub match-many : a ≡ TooManyNames → Matches o s s₁ w w₁ q q 101
   unfolding matcher.says match-number match-report
-  match-many i = match-told q 16 matcher.too-many (match-says TooManyNames i) refl refl
+  match-many i = match-told q 101 matcher.too-many (match-says TooManyNames i) refl refl
 
   pub match-done : (p : Parts) → a ≡ Matched p → Matches o s s₁ w w₁ q (p .count ∷ p .name_1 ∷ p .node_1 ∷ p .name_2 ∷ p .node_2 ∷ []) 0
   unfolding matcher.says match-number match-report

@@ -18,11 +18,11 @@ unfoldable pub report-told : forms.Told → List ℕ → List ℕ
 report-told (forms.values vs) before = vs
 report-told (forms.number n) before = before
 
--- the matcher has two more numbers, after the refusals': 15 for no match, 16 for too many names
+-- the matcher has two more numbers, apart from the refusals': 100 for no match, 101 for too many names
 unfoldable pub match-number : matcher.Told → ℕ
 match-number (matcher.values vs) = 0
-match-number matcher.not-matched = 15
-match-number matcher.too-many = 16
+match-number matcher.not-matched = 100
+match-number matcher.too-many = 101
 match-number (matcher.number n) = n
 
 unfoldable pub match-report : matcher.Told → List ℕ → List ℕ

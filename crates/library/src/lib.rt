@@ -13,9 +13,9 @@ ghost use Rattle.matcher.specs.Outcome as matcher;
 ghost use Rattle.library.specs.Reports.{Optimises, Evaluates, Matches, Checks, Writes};
 
 // What the matcher returns beside the refusals' numbers.
-const NO_MATCH: u8 = 15;
+const NO_MATCH: u8 = 100;
 
-const TOO_MANY_NAMES: u8 = 16;
+const TOO_MANY_NAMES: u8 = 101;
 
 // report: length, passes, units, mark.
 #[no_mangle]

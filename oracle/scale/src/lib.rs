@@ -32,7 +32,7 @@ impl Lengths {
 #[derive(Clone, Copy, PartialEq, Eq, Debug)]
 pub enum Said {
     Answered { mark: bool },
-    /// A refusal, or 15 and 16 of the matcher.
+    /// A refusal, or 100 and 101 of the matcher.
     Number(u8),
     /// The Rust's work grew beyond the oracle's bounds; nothing was compared.
     GaveUp,

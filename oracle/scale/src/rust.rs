@@ -22,8 +22,8 @@ pub enum Want {
 }
 
 /// The matcher's numbers beside the refusals'.
-const NO_MATCH: u8 = 15;
-const TOO_MANY_NAMES: u8 = 16;
+const NO_MATCH: u8 = 100;
+const TOO_MANY_NAMES: u8 = 101;
 
 pub struct Rust {
     store: Allocator,
