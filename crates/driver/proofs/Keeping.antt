@@ -9,7 +9,7 @@ use lib.ListN.{getD}
 use lib.Dec.{leb}
 use Rattle.refusals.specs.declared.Refusal.{Refusal}
 use Rattle.meaning.specs.Tree.{Tree, pair}
-use Rattle.meaning.specs.Limits.{unit-limit, pair-cost}
+use Rattle.meaning.specs.Limits.{unit-limit, pair-cost, height-at}
 use Rattle.meaning.specs.Meter.{Out, done, stop, Spent, charge, give, mark-if, _>>_, _>>=_}
 use Rattle.meaning.specs.Driver.{optimize-sexp}
 use Rattle.meaning.proofs.Tests.{on-bool, not-true}
@@ -21,11 +21,15 @@ use Rattle.store.specs.Nodes.{treeAt}
 use Rattle.store.specs.Makers.{Grown}
 use Rattle.store.proofs.Ready.{grown-none, grown-ready, grown-tree}
 use Rattle.patterns.specs.declared.Patterns.{Patterns}
-use Rattle.rules.specs.declared.Outcome.{Outcome}
-use Rattle.rules.specs.declared.Outcome.the-variants.{Same, Changed, Stopped}
-use Rattle.rules.specs.declared.Work.{Work}
-use Rattle.rules.specs.Work.{spentOf, with-last, Says, Did}
-use Rattle.rules.proofs.Does.{says-same, says-changed}
+use Rattle.run_state.specs.declared.Outcome.{Outcome}
+use Rattle.run_state.specs.declared.Outcome.the-variants.{Same, Changed, Stopped}
+use Rattle.run_state.specs.declared.Work.{Work}
+use Rattle.run_state.specs.Work.{spentOf, with-last, Says, Did}
+use Rattle.run_state.proofs.Does.{says-same, says-changed}
+use Rattle.run_state.specs.declared.Entry.{Entry}
+use Rattle.run_state.specs.declared.State.{State}
+use Rattle.run_state.specs.State.{Valid, Unless-stopped, Still}
+use Rattle.run_state.proofs.Entries.{sounds-grown, valid-still, still-stopped, valid-same, valid-changed}
 use Rattle.driver_parts.specs.Turns.{again, optimizer, Fine, kept, Started, Ends-at, Begins, Begun, outcome-of}
 use Rattle.driver_parts.specs.Walk.{wrap, Walks, Walked}
 use Rattle.driver_parts.proofs.Kept.{fine-fits}
@@ -33,10 +37,7 @@ use Rattle.driver_parts.proofs.Numbers.{rule-marks}
 use Rattle.driver_parts.proofs.Looping.{Looping, begin-atom, turn-ends}
 use Rattle.memo.specs.declared.Answer.{Answer}
 use Rattle.memo.specs.declared.Answer.the-variants.{Known}
-use Rattle.memo.specs.declared.Entry.{Entry}
-use Rattle.memo.specs.declared.State.{State}
-use Rattle.memo.specs.Memo.{Valid, Unless-stopped, Still, Hit, AnswerOk, Ended, Kept}
-use Rattle.memo.proofs.Entries.{sounds-grown, valid-still, still-stopped, valid-same, valid-changed}
+use Rattle.memo.specs.Memo.{Hit, AnswerOk, Ended, Kept}
 
 -- a state whose work is now q
 abbrev with-work : State → Work → State
@@ -76,7 +77,7 @@ module _ (f s t : List ℕ) (st : State) (q : Work) (v : Valid f s st) where
 pub rule-still : (f s t : List ℕ) (st : State) (q : Work) (p : Patterns) (nest n rule : ℕ) → Did f s t (st .w) (treeAt f s n) (optimizer (again nest) rule (treeAt f s n) (spentOf (st .w))) q
     → Fine f s (st .w) p n → Valid f s st → Still f t (record { w = q; used = st .used; memo = st .memo })
 rule-still f s t st q p nest n rule d h v =
-    by-did f s t st q v (treeAt f s n) _ (λ u e. rule-marks (65 - (nest + 1)) rule (treeAt f s n) u (spentOf (st .w)) (spentOf q) (fine-fits f s (st .w) p n h) e) d
+    by-did f s t st q v (treeAt f s n) _ (λ u e. rule-marks (height-at (nest + 1)) rule (treeAt f s n) u (spentOf (st .w)) (spentOf q) (fine-fits f s (st .w) p n h) e) d
 
 -- rule 4's changed body is given back
 kept-marks : (low : Bool) (y u : Tree) (s x : Spent) → kept low y s ≡ done u x → Marked s x
@@ -141,7 +142,7 @@ module _ (f s : List ℕ) (st : State) (n nest : ℕ) (a : Answer) (k : AnswerOk
   unfolding AnswerOk
   hit = rw e at k
 
-  pub hit-did : Did f s s (st .w) (treeAt f s n) (optimize-sexp (65 - nest) (treeAt f s n) (spentOf (st .w))) d
+  pub hit-did : Did f s s (st .w) (treeAt f s n) (optimize-sexp (height-at nest) (treeAt f s n) (spentOf (st .w))) d
   hit-did = hit .did
 
   pub hit-still : Valid f s st → Still f s (record { w = d; used = st .used; memo = st .memo })
@@ -149,7 +150,7 @@ module _ (f s : List ℕ) (st : State) (n nest : ℕ) (a : Answer) (k : AnswerOk
 
 -- a call that ended
 ended : (f : List ℕ) (p : Patterns) (nest : ℕ) (s t : List ℕ) (w q : Work) (n r : ℕ) (moved : Bool) → Fine f s w p n → nest < 65 → Own n r moved
-    → Did f s t w (treeAt f s n) (optimize-sexp (65 - nest) (treeAt f s n) (spentOf w)) q → q .last ≡ outcome-of moved r → Ended f t w q n r nest
+    → Did f s t w (treeAt f s n) (optimize-sexp (height-at nest) (treeAt f s n) (spentOf w)) q → q .last ≡ outcome-of moved r → Ended f t w q n r nest
 unfolding outcome-of
 ended f p nest s t w q n r true h l o d e =
     let z = says-changed f s t w q _ _ d r e in
@@ -182,14 +183,14 @@ module _ (f : List ℕ) (p : Patterns) (nest : ℕ) (room₀ : List ℕ) (w₀ :
   -- at the last rule of a turn
   module _ (r₁ : List ℕ) (w₁ : Work) (d : Did f room r₁ w (treeAt f room r) (optimizer (again nest) (9 - left) (treeAt f room r) (spentOf w)) w₁) (l : 0 < left) (e : w₁ .last ≡ Same)
       (q : Work) (eq : q ≡ with-last w₁ (outcome-of moved r)) (k : left ≤ 1) where
-    turn-did : Did f room₀ r₁ w₀ (treeAt f room₀ n) (optimize-sexp (65 - nest) (treeAt f room₀ n) (spentOf w₀)) q
+    turn-did : Did f room₀ r₁ w₀ (treeAt f room₀ n) (optimize-sexp (height-at nest) (treeAt f room₀ n) (spentOf w₀)) q
     turn-did = turn-ends f p nest room₀ w₀ n room w r left moved i r₁ w₁ d l e q eq k
 
     pub turn-ended : Ended f r₁ w₀ q n r nest
     turn-ended = ended f p nest room₀ r₁ w₀ q n r moved (i .start) (i .nests) o turn-did (ap (λ (v : Work). v .last) eq)
 
     pub turn-stored : (used : ℕ) (memo : List Entry) (s₂ : State) → Kept f r₁ (record { w = q; used = used; memo = memo }) s₂
-        → Did f room₀ r₁ w₀ (treeAt f room₀ n) (optimize-sexp (65 - nest) (treeAt f room₀ n) (spentOf w₀)) (s₂ .w)
+        → Did f room₀ r₁ w₀ (treeAt f room₀ n) (optimize-sexp (height-at nest) (treeAt f room₀ n) (spentOf w₀)) (s₂ .w)
     turn-stored used memo s₂ z = kept-did f room₀ r₁ w₀ _ _ (record { w = q; used = used; memo = memo }) s₂ z turn-did
 
 pub turn-valid : (f s : List ℕ) (st : State) (q : Work) (o : Outcome) → q ≡ with-last (st .w) o → st .w .last ≡ Same → Still f s st → Valid f s (record { w = q; used = st .used; memo = st .memo })
@@ -211,7 +212,7 @@ module _ (f : List ℕ) (room : List ℕ) (r : ℕ) (b q : Work) (o : Outcome) (
 
 module _ (f : List ℕ) (p : Patterns) (nest : ℕ) (room₀ : List ℕ) (w₀ : Work) (n : ℕ) (room : List ℕ) (w : Work) (r left : ℕ) (moved : Bool) (i : Looping f p nest room₀ w₀ n room w r left moved)
     (b : Work) (s : Begun f room w r b) (q : Work) (eq : q ≡ with-last b (outcome-of moved r)) where
-  atom-did : Is-changed (b .last) → left ≤ 0 → Did f room₀ room w₀ (treeAt f room₀ n) (optimize-sexp (65 - nest) (treeAt f room₀ n) (spentOf w₀)) q
+  atom-did : Is-changed (b .last) → left ≤ 0 → Did f room₀ room w₀ (treeAt f room₀ n) (optimize-sexp (height-at nest) (treeAt f room₀ n) (spentOf w₀)) q
   atom-did (is-changed m e) l = begin-atom f p nest room₀ w₀ n room w r left moved i b s l m q eq e
 
   module _ (e : Is-changed (b .last)) (l : left ≤ 0) where
@@ -219,7 +220,7 @@ module _ (f : List ℕ) (p : Patterns) (nest : ℕ) (room₀ : List ℕ) (w₀ :
     atom-ended o = ended f p nest room₀ room w₀ q n r moved (i .start) (i .nests) o (atom-did e l) (ap (λ (v : Work). v .last) eq)
 
     pub atom-stored : (used : ℕ) (memo : List Entry) (s₂ : State) → Kept f room (record { w = q; used = used; memo = memo }) s₂
-        → Did f room₀ room w₀ (treeAt f room₀ n) (optimize-sexp (65 - nest) (treeAt f room₀ n) (spentOf w₀)) (s₂ .w)
+        → Did f room₀ room w₀ (treeAt f room₀ n) (optimize-sexp (height-at nest) (treeAt f room₀ n) (spentOf w₀)) (s₂ .w)
     atom-stored used memo s₂ z = kept-did f room₀ room w₀ _ _ (record { w = q; used = used; memo = memo }) s₂ z (atom-did e l)
 
 pub stored-still : (f s : List ℕ) (st q : State) → Kept f s st q → Still f s q

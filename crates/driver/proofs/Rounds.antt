@@ -7,7 +7,7 @@ use native.Mathlib.Omega.{arith}
 use lib.ListN.{length}
 use Rattle.refusals.specs.declared.Refusal.{Refusal}
 use Rattle.meaning.specs.Tree.{Tree}
-use Rattle.meaning.specs.Limits.{pass-limit}
+use Rattle.meaning.specs.Limits.{pass-limit, height-at}
 use Rattle.meaning.specs.Meter.{W, Out, done, Spent}
 use Rattle.meaning.specs.Constant.{seems-constant}
 use Rattle.meaning.specs.Rules.{settle}
@@ -17,11 +17,15 @@ use Rattle.store.specs.Store.{Ready}
 use Rattle.store.specs.Makers.{Answered}
 use Rattle.store.proofs.Ready.{small, grown-none, grown-tree}
 use Rattle.patterns.specs.declared.Patterns.{Patterns}
-use Rattle.rules.specs.declared.Outcome.{Outcome}
-use Rattle.rules.specs.declared.Outcome.the-variants.{Same, Changed, Stopped}
-use Rattle.rules.specs.declared.Work.{Work}
-use Rattle.rules.specs.Work.{spentOf, with-last, Did}
-use Rattle.rules.proofs.Does.{says-same, says-changed}
+use Rattle.run_state.specs.declared.Outcome.{Outcome}
+use Rattle.run_state.specs.declared.Outcome.the-variants.{Same, Changed, Stopped}
+use Rattle.run_state.specs.declared.Work.{Work}
+use Rattle.run_state.specs.Work.{spentOf, with-last, Did}
+use Rattle.run_state.proofs.Does.{says-same, says-changed}
+use Rattle.run_state.specs.declared.Entry.{Entry}
+use Rattle.run_state.specs.declared.State.{State}
+use Rattle.run_state.specs.State.{Sounds, Valid, Still}
+use Rattle.run_state.proofs.Entries.{sounds-grown, valid-same, valid-changed, still-stopped}
 use Rattle.driver_parts.specs.Turns.{again, optimizer, Fine, Begun, outcome-of}
 use Rattle.driver_parts.specs.Walk.{walk, Walked}
 use Rattle.driver_parts.proofs.Choosing.{children-walked}
@@ -35,10 +39,7 @@ use Rattle.planning.specs.declared.Body.{Body}
 use Rattle.planning.specs.declared.Plan.{Plan}
 use Rattle.planning.specs.declared.Plan.the-variants.{Worked, Constant, Listed, Elements}
 use Rattle.planning.specs.Plans.{Is-done, Settles, Settles-constant, Settles-list, Walks-over, PlanOk, Keepable, KeptBody, Listable, KeptList}
-use Rattle.memo.specs.declared.Entry.{Entry}
-use Rattle.memo.specs.declared.State.{State}
-use Rattle.memo.specs.Memo.{Sounds, Valid, Still, Ended, Kept}
-use Rattle.memo.proofs.Entries.{sounds-grown, valid-same, valid-changed, still-stopped}
+use Rattle.memo.specs.Memo.{Ended, Kept}
 use Rattle.driver.proofs.Keeping.{Own, own-starts, own-moved, rule-still, kept-same, kept-changed, turn-valid, turn-ended, turn-stored, Is-changed, atom-valid, atom-ended, atom-stored, begun-valid}
 
 -- ---- a plan, and the calls that it asks for
@@ -91,7 +92,7 @@ module _ (f : List ℕ) (p : Patterns) (nest : ℕ) (room : List ℕ) (w : Work)
     pub body-valid : (used : ℕ) (memo : List Entry) → Sounds f room (w .ch) (w .mark) used memo → Sounds f r₁ (b .w .ch) (b .w .mark) used memo
     body-valid = node-valid b (constant .body)
 
-    module _ (r₂ : List ℕ) (w₂ : Work) (d : Did f r₁ r₂ (b .w) (treeAt f r₁ (b .node)) (optimize-sexp (65 - (nest + 1)) (treeAt f r₁ (b .node)) (spentOf (b .w))) w₂) where
+    module _ (r₂ : List ℕ) (w₂ : Work) (d : Did f r₁ r₂ (b .w) (treeAt f r₁ (b .node)) (optimize-sexp (height-at (nest + 1)) (treeAt f r₁ (b .node)) (spentOf (b .w))) w₂) where
       pub body-keepable : Keepable f r₂ w₂ r (b .node) (w₂ .last)
       unfolding Keepable
       body-keepable = go (w₂ .last) refl
@@ -237,7 +238,7 @@ module _ (f : List ℕ) (p : Patterns) (nest : ℕ) (room₀ : List ℕ) (w₀ :
     pub head-still : Still f room st
     head-still = ruled .1
 
-    pub head-stop : (u : Refusal) → st .w .last ≡ Stopped u → Did f room₀ room w₀ (treeAt f room₀ n) (optimize-sexp (65 - nest) (treeAt f room₀ n) (spentOf w₀)) (st .w)
+    pub head-stop : (u : Refusal) → st .w .last ≡ Stopped u → Did f room₀ room w₀ (treeAt f room₀ n) (optimize-sexp (height-at nest) (treeAt f room₀ n) (spentOf w₀)) (st .w)
     head-stop u i = let k = ruled .0 in looping.turn-stop f p nest room₀ w₀ n (k .room-before) (k .before) r left moved (k .held) room (st .w) (k .did) (k .some) u i
 
     module _ (i : st .w .last ≡ Same) where
@@ -251,7 +252,7 @@ module _ (f : List ℕ) (p : Patterns) (nest : ℕ) (room₀ : List ℕ) (w₀ :
             turn-ended f p nest room₀ w₀ n (k .room-before) (k .before) r left moved (k .held) (ruled .2) room (st .w) (k .did) (k .some) i q eq o
 
         pub end-stored : (used : ℕ) (memo : List Entry) (s₂ : State) → Kept f room (record { w = q; used = used; memo = memo }) s₂
-            → Did f room₀ room w₀ (treeAt f room₀ n) (optimize-sexp (65 - nest) (treeAt f room₀ n) (spentOf w₀)) (s₂ .w)
+            → Did f room₀ room w₀ (treeAt f room₀ n) (optimize-sexp (height-at nest) (treeAt f room₀ n) (spentOf w₀)) (s₂ .w)
         end-stored =
             let k = ruled .0 in
             turn-stored f p nest room₀ w₀ n (k .room-before) (k .before) r left moved (k .held) (ruled .2) room (st .w) (k .did) (k .some) i q eq o
@@ -319,7 +320,7 @@ module _ (f : List ℕ) (p : Patterns) (nest : ℕ) (room₀ : List ℕ) (w₀ :
       ruled-head used memo v g = (record { room-before = room; before = st .w; held = idle .0; some = l; did = d; long = g ∙ idle .0 .grown .long }, v, idle .2)
 
       later : (u : Tree) → optimizer (again nest) (9 - left) (treeAt f room r) (spentOf (st .w)) ≡ done u (spentOf w₁) → st .w .passes ≤ w₁ .passes
-      later u i = rule-passes (65 - (nest + 1)) (9 - left) (treeAt f room r) u (spentOf (st .w)) (spentOf w₁) (fine-fits f room (st .w) p r (idle .0 .fine)) i
+      later u i = rule-passes (height-at (nest + 1)) (9 - left) (treeAt f room r) u (spentOf (st .w)) (spentOf w₁) (fine-fits f room (st .w) p r (idle .0 .fine)) i
 
       ruled-less : rank true (w₁ .last) (w₁ .passes) left < rank worked (st .w .last) (st .w .passes) left
       unfolding rank
@@ -350,7 +351,7 @@ module _ (f : List ℕ) (p : Patterns) (nest : ℕ) (room₀ : List ℕ) (w₀ :
         pub constant-valid : Valid f r₁ (record { w = b .w; used = st .used; memo = st .memo })
         constant-valid = body-valid f p nest room (st .w) r (9 - left) (idle .0 .fine) r₁ a k b i (st .used) (st .memo) (idle .1)
 
-        module _ (r₂ : List ℕ) (w₂ : Work) (d : Did f r₁ r₂ (b .w) (treeAt f r₁ (b .node)) (optimize-sexp (65 - (nest + 1)) (treeAt f r₁ (b .node)) (spentOf (b .w))) w₂) where
+        module _ (r₂ : List ℕ) (w₂ : Work) (d : Did f r₁ r₂ (b .w) (treeAt f r₁ (b .node)) (optimize-sexp (height-at (nest + 1)) (treeAt f r₁ (b .node)) (spentOf (b .w))) w₂) where
           pub constant-keepable : Keepable f r₂ w₂ r (b .node) (w₂ .last)
           constant-keepable = body-keepable f p nest room (st .w) r (9 - left) (idle .0 .fine) r₁ a k b i r₂ w₂ d
 
@@ -427,7 +428,7 @@ module _ (f : List ℕ) (p : Patterns) (nest : ℕ) (room₀ : List ℕ) (w₀ :
           (looping.begin-turn f p nest room₀ w₀ n room (st .w) r left moved (idle .0) b s l i, begun-valid f room st p r b s i (idle .0 .fine) (idle .1), idle .2)
 
     pub begun-stop : (b : Work) → Begun f room (st .w) r b → left ≤ 0 → (u : Refusal) → b .last ≡ Stopped u
-        → Did f room₀ room w₀ (treeAt f room₀ n) (optimize-sexp (65 - nest) (treeAt f room₀ n) (spentOf w₀)) b
+        → Did f room₀ room w₀ (treeAt f room₀ n) (optimize-sexp (height-at nest) (treeAt f room₀ n) (spentOf w₀)) b
     begun-stop b s l u i = looping.begin-stop f p nest room₀ w₀ n room (st .w) r left moved (idle .0) b s l u i
 
     module _ (b : Work) (s : Begun f room (st .w) r b) (q : Work) (eq : q ≡ with-last b (outcome-of moved r)) (i : Is-changed (b .last)) where
@@ -438,5 +439,5 @@ module _ (f : List ℕ) (p : Patterns) (nest : ℕ) (room₀ : List ℕ) (w₀ :
       atom-end l = atom-ended f p nest room₀ w₀ n room (st .w) r left moved (idle .0) b s q eq i l (idle .2)
 
       pub atom-end-stored : left ≤ 0 → (used : ℕ) (memo : List Entry) (s₂ : State) → Kept f room (record { w = q; used = used; memo = memo }) s₂
-          → Did f room₀ room w₀ (treeAt f room₀ n) (optimize-sexp (65 - nest) (treeAt f room₀ n) (spentOf w₀)) (s₂ .w)
+          → Did f room₀ room w₀ (treeAt f room₀ n) (optimize-sexp (height-at nest) (treeAt f room₀ n) (spentOf w₀)) (s₂ .w)
       atom-end-stored l = atom-stored f p nest room₀ w₀ n room (st .w) r left moved (idle .0) b s q eq i l

@@ -11,11 +11,11 @@ use Rattle.store.specs.Nodes.{treeAt}
 use Rattle.store.specs.Store.{Ready}
 use Rattle.patterns.specs.declared.Patterns.{Patterns}
 use Rattle.patterns.specs.Patterns.{Patterned}
-use Rattle.rules.specs.declared.Work.{Work}
-use Rattle.rules.specs.Work.{spentOf, Did}
+use Rattle.run_state.specs.declared.Work.{Work}
+use Rattle.run_state.specs.Work.{spentOf, Did}
+use Rattle.run_state.specs.declared.State.{State}
+use Rattle.run_state.specs.State.{Valid, sounds}
 use Rattle.driver_parts.specs.Turns.{Fine, fresh-work}
-use Rattle.memo.specs.declared.State.{State}
-use Rattle.memo.specs.Memo.{Valid, sounds}
 
 -- an empty memo
 pub start-valid : (f s : List ℕ) (st : State) → st .used ≡ 0 → length (st .memo) ≡ 256 → Valid f s st

@@ -1,27 +1,27 @@
 // `optimize_sexp_`: the driver's loop, and the rules that call it.
 use memo::Answer;
-use memo::Entry;
-use memo::State;
 use patterns::Patterns;
 use planning::Plan;
 use refusals::Refusal;
-use rules::Outcome;
-use rules::Work;
+use run_state::Entry;
+use run_state::Outcome;
+use run_state::State;
+use run_state::Work;
 use store::Cell;
 use store::Charges;
 ghost use mathlib.Core.Path.{_≡_};
 ghost use mathlib.Core.Bool.{true, false};
-ghost use Prim.Native.Nat.{_-_, _≤_, _<_};
+ghost use Prim.Native.Nat.{_≤_, _<_};
 ghost use lib.ListN.{length};
-ghost use Rattle.meaning.specs.Limits.{nesting-limit};
+ghost use Rattle.meaning.specs.Limits.{nesting-limit, height-at};
 ghost use Rattle.meaning.specs.Driver.{optimize-sexp};
-ghost use Rattle.store.specs.Nodes.{treeAt};
+ghost use Rattle.store.specs.Nodes.{tree-in};
 ghost use Rattle.store.specs.Store.{Ready};
 ghost use Rattle.patterns.specs.Patterns.{Patterned};
-ghost use Rattle.rules.specs.Work.{spentOf, Did};
+ghost use Rattle.run_state.specs.Work.{spentOf, Did};
+ghost use Rattle.run_state.specs.State.{Valid, Still};
 ghost use Rattle.driver_parts.specs.Turns.{again, optimizer, Fine, fresh-work};
 ghost use Rattle.driver_parts.specs.Walk.{walk, Walked};
-ghost use Rattle.memo.specs.Memo.{Valid, Still};
 ghost use Rattle.driver.specs.Alone.{one-rule};
 
 // Works a list's elements left to right, 64 at a time; what was found goes down, the verdict comes up, and then the list is made.
@@ -36,7 +36,7 @@ fn operands(
     flag: bool,
 ) -> State
     requires { ⌜ Fine (now form) (now room) (st .w) p list × (nest < 65) × Valid (now form) (now room) st ⌝ }
-    ensures { λ r. ⌜ Walked (now (form .entry)) (now (room .entry)) (now (room .exit)) (st .w) (walk count (again nest) flag (treeAt (now (form .entry)) (now (room .entry)) list) (spentOf (st .w))) (r .w) × Still (now (form .entry)) (now (room .exit)) r ⌝ }
+    ensures { λ r. ⌜ Walked (now (form .entry)) (now (room .entry)) (now (room .exit)) (st .w) (walk count (again nest) flag (tree-in form room list) (spentOf (st .w))) (r .w) × Still (now (form .entry)) (now (room .exit)) r ⌝ }
 {
     let mut s = st;
     let mut q = list;
@@ -82,7 +82,7 @@ fn operands(
                     Cell::Atom => {
                         if 64 <= nest {
                             let c = s.w;
-                            let d = rules::with(c, Outcome::Stopped(Refusal::TooDeep));
+                            let d = run_state::with(c, Outcome::Stopped(Refusal::TooDeep));
                             s.w = d;
                             return s;
                         }
@@ -123,12 +123,12 @@ fn operands(
 // Only this function and `operands` hold the memo: what is done before and after their calls needs what is spent alone.
 pub fn drive(form: &[u8], room: &mut [u8], p: Patterns, st: State, n: usize, nest: usize) -> State
     requires { ⌜ Fine (now form) (now room) (st .w) p n × (nest < 66) × Valid (now form) (now room) st ⌝ }
-    ensures { λ q. ⌜ Did (now (form .entry)) (now (room .entry)) (now (room .exit)) (st .w) (treeAt (now (form .entry)) (now (room .entry)) n) (optimize-sexp (65 - nest) (treeAt (now (form .entry)) (now (room .entry)) n) (spentOf (st .w))) (q .w) × Still (now (form .entry)) (now (room .exit)) q ⌝ }
+    ensures { λ q. ⌜ Did (now (form .entry)) (now (room .entry)) (now (room .exit)) (st .w) (tree-in form room n) (optimize-sexp (height-at nest) (tree-in form room n) (spentOf (st .w))) (q .w) × Still (now (form .entry)) (now (room .exit)) q ⌝ }
 {
     let mut s = st;
     let c = s.w;
     if 65 <= nest {
-        let d = rules::with(c, Outcome::Stopped(Refusal::TooDeep));
+        let d = run_state::with(c, Outcome::Stopped(Refusal::TooDeep));
         s.w = d;
         return s;
     }
@@ -252,7 +252,7 @@ fn fresh(ch: Charges) -> State
 // `optimize_sexp`: the outermost call.
 pub fn optimize_node(form: &[u8], room: &mut [u8], p: Patterns, ch: Charges, n: usize) -> Work
     requires { ⌜ Ready (now form) (now room) ch n × Patterned (now form) (now room) ch p ⌝ }
-    ensures { λ w. ⌜ Did (now (form .entry)) (now (room .entry)) (now (room .exit)) (fresh-work ch) (treeAt (now (form .entry)) (now (room .entry)) n) (optimize-sexp nesting-limit (treeAt (now (form .entry)) (now (room .entry)) n) (spentOf (fresh-work ch))) w ⌝ }
+    ensures { λ w. ⌜ Did (now (form .entry)) (now (room .entry)) (now (room .exit)) (fresh-work ch) (tree-in form room n) (optimize-sexp nesting-limit (tree-in form room n) (spentOf (fresh-work ch))) w ⌝ }
 {
     let s = fresh(ch);
     let r = drive(form, room, p, s, n, 1);
@@ -262,7 +262,7 @@ pub fn optimize_node(form: &[u8], room: &mut [u8], p: Patterns, ch: Charges, n: 
 // One rule of this number at nesting 1, with the driver below it.
 fn one_rule(form: &[u8], room: &mut [u8], p: Patterns, st: State, n: usize, rule: usize) -> Work
     requires { ⌜ Fine (now form) (now room) (st .w) p n × (0 < rule) × (rule ≤ 8) × Valid (now form) (now room) st ⌝ }
-    ensures { λ q. ⌜ Did (now (form .entry)) (now (room .entry)) (now (room .exit)) (st .w) (treeAt (now (form .entry)) (now (room .entry)) n) (optimizer (again 1) rule (treeAt (now (form .entry)) (now (room .entry)) n) (spentOf (st .w))) q ⌝ }
+    ensures { λ q. ⌜ Did (now (form .entry)) (now (room .entry)) (now (room .exit)) (st .w) (tree-in form room n) (optimizer (again 1) rule (tree-in form room n) (spentOf (st .w))) q ⌝ }
 {
     let mut s = st;
     let w = s.w;
@@ -299,14 +299,14 @@ pub fn apply_node(
     rule: usize,
 ) -> Work
     requires { ⌜ Ready (now form) (now room) ch n × Patterned (now form) (now room) ch p × (0 < rule) × (rule ≤ 8) ⌝ }
-    ensures { λ w. ⌜ Did (now (form .entry)) (now (room .entry)) (now (room .exit)) (fresh-work ch) (treeAt (now (form .entry)) (now (room .entry)) n) (one-rule rule (treeAt (now (form .entry)) (now (room .entry)) n) (spentOf (fresh-work ch))) w ⌝ }
+    ensures { λ w. ⌜ Did (now (form .entry)) (now (room .entry)) (now (room .exit)) (fresh-work ch) (tree-in form room n) (one-rule rule (tree-in form room n) (spentOf (fresh-work ch))) w ⌝ }
 {
     let mut s = fresh(ch);
     let w = s.w;
     let b = driver_parts::begin(form, room, w, n);
     let o = b.last;
     match o {
-        Outcome::Changed(_) => rules::with(b, Outcome::Same),
+        Outcome::Changed(_) => run_state::with(b, Outcome::Same),
         Outcome::Stopped(_) => b,
         Outcome::Same => {
             s.w = b;

@@ -9,10 +9,10 @@ use Rattle.meaning.specs.Rules.{children-optimizer}
 use Rattle.meaning.proofs.OperandsOutcomes as walks
 use Rattle.store.specs.Nodes.{treeAt}
 use Rattle.patterns.specs.declared.Patterns.{Patterns}
-use Rattle.rules.specs.declared.Outcome.{Outcome}
-use Rattle.rules.specs.declared.Outcome.the-variants.{Same, Changed, Stopped}
-use Rattle.rules.specs.declared.Work.{Work}
-use Rattle.rules.specs.Work.{spentOf, Did}
+use Rattle.run_state.specs.declared.Outcome.{Outcome}
+use Rattle.run_state.specs.declared.Outcome.the-variants.{Same, Changed, Stopped}
+use Rattle.run_state.specs.declared.Work.{Work}
+use Rattle.run_state.specs.Work.{spentOf, Did}
 use Rattle.driver_parts.specs.Turns.{again, Fine}
 use Rattle.driver_parts.specs.Walk.{walk, Walked}
 use Rattle.driver_parts.proofs.Saying.{say-same, say-changed, say-stopped, walked-none, walked-made, walked-stopped}

@@ -12,7 +12,7 @@ use lib.Seq.{getD-set-same, getD-set-other}
 use Rattle.refusals.specs.declared.Refusal.{Refusal}
 use Rattle.refusals.specs.declared.Refusal.the-variants.{TooDeep}
 use Rattle.meaning.specs.Tree.{Tree, atom, pair, equal-to}
-use Rattle.meaning.specs.Limits.{pass-limit}
+use Rattle.meaning.specs.Limits.{pass-limit, height-at}
 use Rattle.meaning.specs.Meter.{Out, done, stop, Spent}
 use Rattle.meaning.specs.Rules.{non-constant}
 use Rattle.meaning.specs.Driver.{optimize-sexp}
@@ -31,10 +31,10 @@ use Rattle.store.proofs.Ready as ready
 use Rattle.store.proofs.Ready.{small, fall-right, ready-left, ready-right, look-pair, look-atom, grown-none, grown-both, grown-ready, grown-tree}
 use Rattle.sexp.specs.Lists.{Items}
 use Rattle.patterns.specs.declared.Patterns.{Patterns}
-use Rattle.rules.specs.declared.Outcome.the-variants.{Same, Changed, Stopped}
-use Rattle.rules.specs.declared.Work.{Work}
-use Rattle.rules.specs.Work.{spentOf, with-last, Same-as, Changed-to, Did}
-use Rattle.rules.proofs.Does.{says-same, says-changed, says-stopped}
+use Rattle.run_state.specs.declared.Outcome.the-variants.{Same, Changed, Stopped}
+use Rattle.run_state.specs.declared.Work.{Work}
+use Rattle.run_state.specs.Work.{spentOf, with-last, Same-as, Changed-to, Did}
+use Rattle.run_state.proofs.Does.{says-same, says-changed, says-stopped}
 use Rattle.driver_parts.specs.Turns.{again, Fine}
 use Rattle.driver_parts.specs.Walk.{test-of, walk, made-list, sets-flag, wrap, Made-at, Walked}
 use Rattle.driver_parts.proofs.Saying.{walked-none, walked-made, walked-stopped, walk-none, walk-stopped, walk-stops, walks-on}
@@ -290,15 +290,15 @@ module _ (f : List ℕ) (p : Patterns) (nest list : ℕ) (count flag : Bool) (ro
           put room w h seen (grown-none f room (w .ch) (elem-ready .held)) elem-ready (i .fine .passes) lk
           (on (treeAt f room h) (spentOf w) seen e (sym (or-false seen) ∙ ap (seen ||_) (sym z)))
 
-    module _ (r₁ : List ℕ) (w₁ : Work) (d : Did f room r₁ w (treeAt f room h) (optimize-sexp (65 - (nest + 1)) (treeAt f room h) (spentOf w)) w₁) where
+    module _ (r₁ : List ℕ) (w₁ : Work) (d : Did f room r₁ w (treeAt f room h) (optimize-sexp (height-at (nest + 1)) (treeAt f room h) (spentOf w)) w₁) where
       pub elem-stop : (n : Refusal) → w₁ .last ≡ Stopped n → Walked f room₀ r₁ w₀ (walk count (again nest) flag (treeAt f room₀ list) (spentOf w₀)) w₁
       elem-stop n e = let u = says-stopped f room r₁ w w₁ _ _ d n e in walk-stopped f room₀ r₁ w₀ w₁ _ n (u .after) e (off n (u .after) (u .stops))
 
       fits : (u : Tree) → again nest (treeAt f room h) (spentOf w) ≡ done u (spentOf w₁) → w₁ .passes ≤ pass-limit
-      fits u e = driver-fits (65 - (nest + 1)) (treeAt f room h) u (spentOf w) (spentOf w₁) (fine-fits f room w p q (i .fine)) e .1
+      fits u e = driver-fits (height-at (nest + 1)) (treeAt f room h) u (spentOf w) (spentOf w₁) (fine-fits f room w p q (i .fine)) e .1
 
       module _ (e : w₁ .last ≡ Same) where
-        abbrev stay : Same-as f room r₁ w w₁ (treeAt f room h) (optimize-sexp (65 - (nest + 1)) (treeAt f room h) (spentOf w))
+        abbrev stay : Same-as f room r₁ w w₁ (treeAt f room h) (optimize-sexp (height-at (nest + 1)) (treeAt f room h) (spentOf w))
         stay = says-same f room r₁ w w₁ _ _ d e
 
         pub same-room : Room r₁ h
@@ -311,7 +311,7 @@ module _ (f : List ℕ) (p : Patterns) (nest list : ℕ) (count flag : Bool) (ro
             (rw eh (on (treeAt f room h) (spentOf w₁) b (stay .gives) (eb ∙ ap (λ (y : Tree). seen || sets-flag count false y) eh ∙ ap (seen ||_) (stayed count (treeAt f room h)))))
 
       module _ (m : ℕ) (e : w₁ .last ≡ Changed m) where
-        abbrev to : Changed-to f room r₁ w w₁ (treeAt f room h) m (optimize-sexp (65 - (nest + 1)) (treeAt f room h) (spentOf w))
+        abbrev to : Changed-to f room r₁ w w₁ (treeAt f room h) m (optimize-sexp (height-at (nest + 1)) (treeAt f room h) (spentOf w))
         to = says-changed f room r₁ w w₁ _ _ d m e
 
         pub changed-room : Room r₁ m

@@ -9,8 +9,8 @@ use Rattle.store.specs.Makers.{Grown}
 use Rattle.store.proofs.Ready.{room, grown-ready}
 use Rattle.patterns.specs.declared.Patterns.{Patterns}
 use Rattle.patterns.proofs.Laws.{patterned-grown}
-use Rattle.rules.specs.declared.Work.{Work}
-use Rattle.rules.specs.Work.{spentOf}
+use Rattle.run_state.specs.declared.Work.{Work}
+use Rattle.run_state.specs.Work.{spentOf}
 use Rattle.driver_parts.specs.Turns.{Fine}
 
 -- another node, and passes within the limit

@@ -8,8 +8,9 @@ use lib.Dec.{leb}
 use Rattle.refusals.specs.declared.Refusal.{Refusal}
 use Rattle.refusals.specs.declared.Refusal.the-variants.{TooDeep}
 use Rattle.meaning.specs.Tree.{Tree, atom, pair, equal-to}
-use Rattle.meaning.specs.Limits.{pass-limit}
+use Rattle.meaning.specs.Limits.{pass-limit, height-at}
 use Rattle.meaning.specs.Meter.{W, Out, done, stop, Spent, give, one-pass}
+use Rattle.meaning.specs.Operator.{is-pair}
 use Rattle.meaning.specs.Driver.{ends-pass, pass, optimize-sexp}
 use Rattle.meaning.proofs.Tests.{on-bool, not-true, not-false, leb-yes}
 use Rattle.meaning.proofs.Cost.{steady-fits}
@@ -24,11 +25,11 @@ use Rattle.store.specs.Nodes.{treeAt}
 use Rattle.store.specs.Makers.{Grown}
 use Rattle.store.proofs.Ready.{grown-none, grown-both, grown-ready, grown-tree}
 use Rattle.patterns.specs.declared.Patterns.{Patterns}
-use Rattle.rules.specs.declared.Outcome.the-variants.{Same, Changed, Stopped}
-use Rattle.rules.specs.declared.Work.{Work}
-use Rattle.rules.specs.Work.{spentOf, with-last, Same-as, Changed-to, Did}
-use Rattle.rules.proofs.Does.{did-stopped, says-same, says-changed, says-stopped}
-use Rattle.driver_parts.specs.Turns.{again, optimizer, Fine, is-pair, Started, Ends-at, Passes-out, Begins, Begun, outcome-of}
+use Rattle.run_state.specs.declared.Outcome.the-variants.{Same, Changed, Stopped}
+use Rattle.run_state.specs.declared.Work.{Work}
+use Rattle.run_state.specs.Work.{spentOf, with-last, Same-as, Changed-to, Did}
+use Rattle.run_state.proofs.Does.{did-stopped, says-same, says-changed, says-stopped}
+use Rattle.driver_parts.specs.Turns.{again, optimizer, Fine, Started, Ends-at, Passes-out, Begins, Begun, outcome-of}
 use Rattle.driver_parts.proofs.Saying.{say-same, say-changed, say-stopped}
 use Rattle.driver_parts.proofs.Kept.{fine-kept, fine-same, fine-fits}
 use Rattle.driver_parts.proofs.Numbers.{rules-from, rules-more, rules-none, rule-fits, rule-passes}
@@ -129,12 +130,12 @@ pub record InTurn (f : List ℕ) (nest : ℕ) (room : List ℕ) (w : Work) (r le
   pub fits : Fits entry
   pub pays : one-pass entry ≡ done tt from
   pub here : pass (9 - left) (rules-from (again nest) (9 - left)) (treeAt f room r) (spentOf w) ≡ turn (again nest) (treeAt f room r) from
-  pub whole : optimize-sexp (suc (65 - (nest + 1))) (treeAt f room r) entry ≡ total
+  pub whole : optimize-sexp (suc (height-at (nest + 1))) (treeAt f room r) entry ≡ total
 
 -- a pass of the call changed its tree
 pub record Moved (f : List ℕ) (nest : ℕ) (room₀ : List ℕ) (n : ℕ) : Type 0 where
   pub pairs : is-pair (treeAt f room₀ n) ≡ true
-  pub changes : Changes (65 - (nest + 1)) (treeAt f room₀ n)
+  pub changes : Changes (height-at (nest + 1)) (treeAt f room₀ n)
 
 pub record Looping (f : List ℕ) (p : Patterns) (nest : ℕ) (room₀ : List ℕ) (w₀ : Work) (n : ℕ) (room : List ℕ) (w : Work) (r left : ℕ) (moved : Bool) : Type 0 where
   pub start : Fine f room₀ w₀ p n
@@ -144,14 +145,14 @@ pub record Looping (f : List ℕ) (p : Patterns) (nest : ℕ) (room₀ : List �
   pub few : left ≤ 8
   pub moves : moved ≡ true → Moved f nest room₀ n
   pub still : moved ≡ false → treeAt f room r ≡ treeAt f room₀ n
-  pub between : left ≡ 0 → optimize-sexp (suc (65 - (nest + 1))) (treeAt f room r) (spentOf w) ≡ optimize-sexp (65 - nest) (treeAt f room₀ n) (spentOf w₀)
-  pub within : 0 < left → InTurn f nest room w r left (optimize-sexp (65 - nest) (treeAt f room₀ n) (spentOf w₀))
+  pub between : left ≡ 0 → optimize-sexp (suc (height-at (nest + 1))) (treeAt f room r) (spentOf w) ≡ optimize-sexp (height-at nest) (treeAt f room₀ n) (spentOf w₀)
+  pub within : 0 < left → InTurn f nest room w r left (optimize-sexp (height-at nest) (treeAt f room₀ n) (spentOf w₀))
 
-one-deeper : (nest : ℕ) (t : Tree) (s : Spent) → nest < 65 → optimize-sexp (suc (65 - (nest + 1))) t s ≡ optimize-sexp (65 - nest) t s
+one-deeper : (nest : ℕ) (t : Tree) (s : Spent) → nest < 65 → optimize-sexp (suc (height-at (nest + 1))) t s ≡ optimize-sexp (height-at nest) t s
 one-deeper nest t s l = let e : suc (65 - (nest + 1)) ≡ 65 - nest = omega arith in ap (λ (d : ℕ). optimize-sexp d t s) e
 
 pub drive-deep : (f : List ℕ) (p : Patterns) (nest : ℕ) (room : List ℕ) (w q : Work) (n : ℕ) → Fine f room w p n → 65 ≤ nest → q ≡ with-last w (Stopped TooDeep)
-    → Did f room room w (treeAt f room n) (optimize-sexp (65 - nest) (treeAt f room n) (spentOf w)) q
+    → Did f room room w (treeAt f room n) (optimize-sexp (height-at nest) (treeAt f room n) (spentOf w)) q
 drive-deep f p nest room w q n h l eq =
     let e : 65 - nest ≡ 0 = omega arith in
     did-stopped f room room w q _ _ TooDeep (spentOf w) eq (ap (λ (d : ℕ). optimize-sexp d (treeAt f room n) (spentOf w)) e ∙ too-deep (treeAt f room n) (spentOf w))
@@ -171,7 +172,7 @@ loop-starts f p nest room w n h l = record {
 
 module _ (f : List ℕ) (p : Patterns) (nest : ℕ) (room₀ : List ℕ) (w₀ : Work) (n : ℕ) (room : List ℕ) (w : Work) (r left : ℕ) (moved : Bool) (i : Looping f p nest room₀ w₀ n room w r left moved) where
   abbrev total : Out Spent Tree
-  total = optimize-sexp (65 - nest) (treeAt f room₀ n) (spentOf w₀)
+  total = optimize-sexp (height-at nest) (treeAt f room₀ n) (spentOf w₀)
 
   abbrev x : Tree
   x = treeAt f room r
@@ -184,7 +185,7 @@ module _ (f : List ℕ) (p : Patterns) (nest : ℕ) (room₀ : List ℕ) (w₀ :
 
   -- the call ends at r, where its work, from w₁, gives r's tree
   ends : (r₁ : List ℕ) (w₁ q : Work) → Grown f room r₁ (w .ch) (w₁ .ch) → total ≡ done x (spentOf w₁) → q ≡ with-last w₁ (outcome-of moved r)
-      → Did f room₀ r₁ w₀ (treeAt f room₀ n) (optimize-sexp (65 - nest) (treeAt f room₀ n) (spentOf w₀)) q
+      → Did f room₀ r₁ w₀ (treeAt f room₀ n) (optimize-sexp (height-at nest) (treeAt f room₀ n) (spentOf w₀)) q
   unfolding outcome-of
   ends r₁ w₁ q g e eq = go moved refl (eq)
     where
@@ -201,7 +202,7 @@ module _ (f : List ℕ) (p : Patterns) (nest : ℕ) (room₀ : List ℕ) (w₀ :
             ready = grown-ready g (i .fine .ready);
             gives = o;
             differs =
-                call-differs (65 - (nest + 1)) (treeAt f room₀ n) (treeAt f r₁ r) (spentOf w₀) (spentOf w₁) (v .pairs) (v .changes) (fine-fits f room₀ w₀ p n (i .start))
+                call-differs (height-at (nest + 1)) (treeAt f room₀ n) (treeAt f r₁ r) (spentOf w₀) (spentOf w₁) (v .pairs) (v .changes) (fine-fits f room₀ w₀ p n (i .start))
                 (one-deeper nest (treeAt f room₀ n) (spentOf w₀) (i .nests) ∙ o);
           }))
       go false m z =
@@ -216,16 +217,16 @@ module _ (f : List ℕ) (p : Patterns) (nest : ℕ) (room₀ : List ℕ) (w₀ :
     z = omega arith
 
     pub begin-atom : (m : ℕ) (q : Work) → q ≡ with-last b (outcome-of moved r) → b .last ≡ Changed m
-        → Did f room₀ room w₀ (treeAt f room₀ n) (optimize-sexp (65 - nest) (treeAt f room₀ n) (spentOf w₀)) q
+        → Did f room₀ room w₀ (treeAt f room₀ n) (optimize-sexp (height-at nest) (treeAt f room₀ n) (spentOf w₀)) q
     begin-atom m q eq e =
         let a = begun-atom f room w b r m s e in
-        ends room w q (grown-none f room (w .ch) (i .fine .ready .held)) (sym (i .between z) ∙ call-atom (65 - (nest + 1)) x (spentOf w) (a .atoms))
+        ends room w q (grown-none f room (w .ch) (i .fine .ready .held)) (sym (i .between z) ∙ call-atom (height-at (nest + 1)) x (spentOf w) (a .atoms))
         (eq ∙ ap (λ (v : Work). with-last v (outcome-of moved r)) (a .work))
 
-    pub begin-stop : (u : Refusal) → b .last ≡ Stopped u → Did f room₀ room w₀ (treeAt f room₀ n) (optimize-sexp (65 - nest) (treeAt f room₀ n) (spentOf w₀)) b
+    pub begin-stop : (u : Refusal) → b .last ≡ Stopped u → Did f room₀ room w₀ (treeAt f room₀ n) (optimize-sexp (height-at nest) (treeAt f room₀ n) (spentOf w₀)) b
     begin-stop u e =
         let a = begun-out f room w b r u s e in
-        say-stopped f room₀ room w₀ b _ _ u (spentOf w) e (sym (i .between z) ∙ call-out (65 - (nest + 1)) (spentOf w) x (a .pairs) (spentOf w) u (a .refusal))
+        say-stopped f room₀ room w₀ b _ _ u (spentOf w) e (sym (i .between z) ∙ call-out (height-at (nest + 1)) (spentOf w) x (a .pairs) (spentOf w) u (a .refusal))
 
     module _ (e : b .last ≡ Same) where
       abbrev started : Started f room w b r
@@ -260,21 +261,21 @@ module _ (f : List ℕ) (p : Patterns) (nest : ℕ) (room₀ : List ℕ) (w₀ :
   -- ---- a rule of a turn
 
   module _ (r₁ : List ℕ) (w₁ : Work) (d : Did f room r₁ w (treeAt f room r) (optimizer (again nest) (9 - left) (treeAt f room r) (spentOf w)) w₁) (l : 0 < left) where
-    abbrev t : InTurn f nest room w r left (optimize-sexp (65 - nest) (treeAt f room₀ n) (spentOf w₀))
+    abbrev t : InTurn f nest room w r left (optimize-sexp (height-at nest) (treeAt f room₀ n) (spentOf w₀))
     t = i .within l
 
-    pub turn-stop : (u : Refusal) → w₁ .last ≡ Stopped u → Did f room₀ r₁ w₀ (treeAt f room₀ n) (optimize-sexp (65 - nest) (treeAt f room₀ n) (spentOf w₀)) w₁
+    pub turn-stop : (u : Refusal) → w₁ .last ≡ Stopped u → Did f room₀ r₁ w₀ (treeAt f room₀ n) (optimize-sexp (height-at nest) (treeAt f room₀ n) (spentOf w₀)) w₁
     turn-stop u e =
         let z = says-stopped f room r₁ w w₁ _ _ d u e in
         say-stopped f room₀ r₁ w₀ w₁ _ _ u (z .after) e
         (sym (t .whole)
-        ∙ call-stops (65 - (nest + 1)) (t .entry) (t .from) (t .pays) x (t .pairs) (z .after) u
+        ∙ call-stops (height-at (nest + 1)) (t .entry) (t .from) (t .pays) x (t .pairs) (z .after) u
         (sym (t .here) ∙ rest-stops nest (9 - left) x (spentOf w) (z .after) turn-least (turn-most l) u (z .stops)))
 
     later : (u : Tree) → optimizer (again nest) (9 - left) x (spentOf w) ≡ done u (spentOf w₁) → (w .passes ≤ w₁ .passes) × (w₁ .passes ≤ pass-limit)
     later u e =
         let q = fine-fits f room w p r (i .fine) in
-        (rule-passes (65 - (nest + 1)) (9 - left) x u (spentOf w) (spentOf w₁) q e, rule-fits (65 - (nest + 1)) (9 - left) x u (spentOf w) (spentOf w₁) q e .1)
+        (rule-passes (height-at (nest + 1)) (9 - left) x u (spentOf w) (spentOf w₁) q e, rule-fits (height-at (nest + 1)) (9 - left) x u (spentOf w) (spentOf w₁) q e .1)
 
     module _ (e : w₁ .last ≡ Same) where
       abbrev stay : Same-as f room r₁ w w₁ (treeAt f room r) (optimizer (again nest) (9 - left) (treeAt f room r) (spentOf w))
@@ -284,11 +285,11 @@ module _ (f : List ℕ) (p : Patterns) (nest : ℕ) (room₀ : List ℕ) (w₀ :
       next = sym (t .here) ∙ rest-same nest (9 - left) x (spentOf w) (spentOf w₁) turn-least (turn-most l) (stay .gives)
 
       pub turn-ends : (q : Work) → q ≡ with-last w₁ (outcome-of moved r) → left ≤ 1
-          → Did f room₀ r₁ w₀ (treeAt f room₀ n) (optimize-sexp (65 - nest) (treeAt f room₀ n) (spentOf w₀)) q
+          → Did f room₀ r₁ w₀ (treeAt f room₀ n) (optimize-sexp (height-at nest) (treeAt f room₀ n) (spentOf w₀)) q
       turn-ends q eq o =
           ends r₁ w₁ q (stay .grown)
           (sym (t .whole)
-          ∙ call-same (65 - (nest + 1)) (t .entry) (t .from) (t .pays) x (t .pairs) (spentOf w₁)
+          ∙ call-same (height-at (nest + 1)) (t .entry) (t .from) (t .pays) x (t .pairs) (spentOf w₁)
           (next ∙ rest-ends nest (9 - left) x (spentOf w) (spentOf w₁) turn-least (turn-most l) (omega arith))) eq
 
       pub turn-next : 1 < left → Looping f p nest room₀ w₀ n r₁ w₁ r (left - 1) moved
@@ -328,7 +329,7 @@ module _ (f : List ℕ) (p : Patterns) (nest : ℕ) (room₀ : List ℕ) (w₀ :
       changes false q = record {
         pairs = rw (← i .still q) (t .pairs);
         changes =
-            subst (Changes (65 - (nest + 1))) (i .still q)
+            subst (Changes (height-at (nest + 1))) (i .still q)
             (record {
               from = t .from;
               to = spentOf w₁;
@@ -348,6 +349,6 @@ module _ (f : List ℕ) (p : Patterns) (nest : ℕ) (room₀ : List ℕ) (w₀ :
         few = omega arith;
         moves = λ q. changes moved refl;
         still = λ q. not-true q;
-        between = λ j. sym (call-changes (65 - (nest + 1)) (t .entry) (t .from) (t .pays) x (t .pairs) (treeAt f r₁ m) (spentOf w₁) gave (new .differs)) ∙ t .whole;
+        between = λ j. sym (call-changes (height-at (nest + 1)) (t .entry) (t .from) (t .pays) x (t .pairs) (treeAt f r₁ m) (spentOf w₁) gave (new .differs)) ∙ t .whole;
         within = λ j. absurd (omega arith);
       }

@@ -3,9 +3,10 @@ use mathlib.Core.Path.{_≡_, refl, sym, _∙_, ap}
 use mathlib.Core.List.{List}
 use mathlib.Core.Bool.{Bool, true, false, not}
 use mathlib.Core.Option.{Option}
-use Prim.Native.Nat.{ℕ, _+_, _-_}
+use Prim.Native.Nat.{ℕ, _+_}
 use Rattle.refusals.specs.declared.Refusal.{Refusal}
 use Rattle.meaning.specs.Tree.{Tree}
+use Rattle.meaning.specs.Limits.{height-at}
 use Rattle.meaning.specs.Meter.{Out, Spent, _>>=_}
 use Rattle.meaning.specs.Constant.{seems-constant}
 use Rattle.meaning.specs.Substitute.{is-proper}
@@ -22,10 +23,10 @@ use Rattle.store.specs.Makers.{Grown, Answered}
 use Rattle.store.proofs.Ready as ready
 use Rattle.store.proofs.Ready.{grown-both, grown-ready, grown-tree}
 use Rattle.patterns.specs.declared.Patterns.{Patterns}
-use Rattle.rules.specs.declared.Outcome.the-variants.{Same, Changed, Stopped}
-use Rattle.rules.specs.declared.Work.{Work}
-use Rattle.rules.specs.Work.{spentOf, Same-as, Changed-to, Did}
-use Rattle.rules.proofs.Does.{says-same, says-changed, says-stopped}
+use Rattle.run_state.specs.declared.Outcome.the-variants.{Same, Changed, Stopped}
+use Rattle.run_state.specs.declared.Work.{Work}
+use Rattle.run_state.specs.Work.{spentOf, Same-as, Changed-to, Did}
+use Rattle.run_state.proofs.Does.{says-same, says-changed, says-stopped}
 use Rattle.driver_parts.specs.Turns.{again, Fine, kept}
 use Rattle.driver_parts.specs.Walk.{walk, Made-at, Walked}
 use Rattle.driver_parts.proofs.Saying.{say-same, say-stopped, renamed, goes-on, walked-none, walked-made, walked-stopped}
@@ -65,12 +66,12 @@ module _ (f : List ℕ) (p : Patterns) (room : List ℕ) (w : Work) (r new : ℕ
 
   -- ---- a body that seems constant is worked
 
-  module _ (nest : ℕ) (eb : b ≡ true) (r₂ : List ℕ) (w₂ : Work) (d : Did f r₁ r₂ w (treeAt f r₁ new) (optimize-sexp (65 - (nest + 1)) (treeAt f r₁ new) (spentOf w)) w₂) where
+  module _ (nest : ℕ) (eb : b ≡ true) (r₂ : List ℕ) (w₂ : Work) (d : Did f r₁ r₂ w (treeAt f r₁ new) (optimize-sexp (height-at (nest + 1)) (treeAt f r₁ new) (spentOf w)) w₂) where
     by-work : (low : Bool) → def nest low ≡ (again nest y >>= kept low) (spentOf w)
     unfolding kept
     by-work low = walks.settle-constant (again nest) x y low (sym (a .answer) ∙ eb) (spentOf w)
 
-    here : (o : Out Spent Tree) → optimize-sexp (65 - (nest + 1)) (treeAt f r₁ new) (spentOf w) ≡ o → again nest y (spentOf w) ≡ o
+    here : (o : Out Spent Tree) → optimize-sexp (height-at (nest + 1)) (treeAt f r₁ new) (spentOf w) ≡ o → again nest y (spentOf w) ≡ o
     here o e = ap (λ (t : Tree). again nest t (spentOf w)) (sym new-tree) ∙ e
 
     pub constant-stop : (low : Bool) (u : Refusal) → w₂ .last ≡ Stopped u → Did f room r₂ w (treeAt f room r) (settle (again nest) (treeAt f room r) (treeAt f room new) low (spentOf w)) w₂
@@ -82,7 +83,7 @@ module _ (f : List ℕ) (p : Patterns) (room : List ℕ) (w : Work) (r new : ℕ
     kept-input g = grown-ready g (grown-ready (a .grown) (h .ready))
 
     module _ (e : w₂ .last ≡ Same) where
-      abbrev stay : Same-as f r₁ r₂ w w₂ (treeAt f r₁ new) (optimize-sexp (65 - (nest + 1)) (treeAt f r₁ new) (spentOf w))
+      abbrev stay : Same-as f r₁ r₂ w w₂ (treeAt f r₁ new) (optimize-sexp (height-at (nest + 1)) (treeAt f r₁ new) (spentOf w))
       stay = says-same f r₁ r₂ w w₂ _ _ d e
 
       pub same-both : Ready f r₂ (w₂ .ch) r × Ready f r₂ (w₂ .ch) new
@@ -95,7 +96,7 @@ module _ (f : List ℕ) (p : Patterns) (room : List ℕ) (w : Work) (r new : ℕ
           (by-work low ∙ bind-at (again nest y) (kept low) (spentOf w) (spentOf w₂) (treeAt f r₁ new) (here _ (stay .gives))) k
 
     module _ (m : ℕ) (e : w₂ .last ≡ Changed m) where
-      abbrev to : Changed-to f r₁ r₂ w w₂ (treeAt f r₁ new) m (optimize-sexp (65 - (nest + 1)) (treeAt f r₁ new) (spentOf w))
+      abbrev to : Changed-to f r₁ r₂ w w₂ (treeAt f r₁ new) m (optimize-sexp (height-at (nest + 1)) (treeAt f r₁ new) (spentOf w))
       to = says-changed f r₁ r₂ w w₂ _ _ d m e
 
       pub changed-both : Ready f r₂ (w₂ .ch) r × Ready f r₂ (w₂ .ch) m

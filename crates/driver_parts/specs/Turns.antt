@@ -5,23 +5,24 @@ use mathlib.Core.List.{List}
 use mathlib.Core.Bool.{Bool, true, false}
 use lib.ListN.{getD}
 use Rattle.refusals.specs.declared.Refusal.{Refusal}
-use Rattle.meaning.specs.Tree.{Tree, atom, pair}
-use Rattle.meaning.specs.Limits.{pass-limit}
+use Rattle.meaning.specs.Tree.{Tree}
+use Rattle.meaning.specs.Limits.{pass-limit, height-at}
 use Rattle.meaning.specs.Meter.{W, done, stop, give, one-pass, mark-if, _>>_}
+use Rattle.meaning.specs.Operator.{is-pair}
 use Rattle.meaning.specs.Driver.{optimizers, optimize-sexp}
 use Rattle.store.specs.declared.Charges.{Charges}
 use Rattle.store.specs.Nodes.{treeAt}
 use Rattle.store.specs.Store.{Ready}
 use Rattle.patterns.specs.declared.Patterns.{Patterns}
 use Rattle.patterns.specs.Patterns.{Patterned}
-use Rattle.rules.specs.declared.Outcome.{Outcome}
-use Rattle.rules.specs.declared.Outcome.the-variants.{Same, Changed, Stopped}
-use Rattle.rules.specs.declared.Work.{Work}
-use Rattle.rules.specs.Work.{spentOf, with-last}
+use Rattle.run_state.specs.declared.Outcome.{Outcome}
+use Rattle.run_state.specs.declared.Outcome.the-variants.{Same, Changed, Stopped}
+use Rattle.run_state.specs.declared.Work.{Work}
+use Rattle.run_state.specs.Work.{spentOf, with-last}
 
 -- the driver one deeper than the nesting
 abbrev pub again : ℕ → Tree → W Tree
-again nest t = optimize-sexp (65 - (nest + 1)) t
+again nest t = optimize-sexp (height-at (nest + 1)) t
 
 -- the rule of this number: 1 to 8
 unfoldable pub optimizer : (Tree → W Tree) → ℕ → Tree → W Tree
@@ -45,10 +46,6 @@ pub record Fine (f s : List ℕ) (w : Work) (p : Patterns) (n : ℕ) : Type 0 wh
 unfoldable pub kept : Bool → Tree → W Tree
 unfolding mark-if give _>>_
 kept low t = mark-if low >> give t
-
-unfoldable pub is-pair : Tree → Bool
-is-pair (atom b) = false
-is-pair (pair l r) = true
 
 -- a turn begins at a pair: a pass was charged
 pub record Started (f s : List ℕ) (w w′ : Work) (n : ℕ) : Type 0 where

@@ -13,10 +13,10 @@ use Rattle.meaning.proofs.Operands.{work, join, counts, differs}
 use Rattle.store.specs.Nodes.{treeAt}
 use Rattle.store.specs.Store.{Ready}
 use Rattle.store.specs.Makers.{Grown}
-use Rattle.rules.specs.declared.Outcome.{Outcome}
-use Rattle.rules.specs.declared.Outcome.the-variants.{Same, Changed, Stopped}
-use Rattle.rules.specs.declared.Work.{Work}
-use Rattle.rules.specs.Work.{spentOf}
+use Rattle.run_state.specs.declared.Outcome.{Outcome}
+use Rattle.run_state.specs.declared.Outcome.the-variants.{Same, Changed, Stopped}
+use Rattle.run_state.specs.declared.Work.{Work}
+use Rattle.run_state.specs.Work.{spentOf}
 
 -- what sets the flag: in rule 4 (count) that an operand counts, in rule 5 that an element differs
 abbrev pub test-of : Bool → Tree → Tree → Bool

@@ -1,8 +1,8 @@
 // What the driver does between its calls of itself.
 use patterns::Patterns;
 use refusals::Refusal;
-use rules::Outcome;
-use rules::Work;
+use run_state::Outcome;
+use run_state::Work;
 use store::Cell;
 ghost use mathlib.Core.Path.{_≡_};
 ghost use mathlib.Core.Bool.{_||_};
@@ -10,11 +10,11 @@ ghost use Rattle.meaning.specs.Meter.{done, give};
 ghost use Rattle.meaning.specs.Rules.{non-constant};
 ghost use Rattle.meaning.proofs.Operands.{ending};
 ghost use Rattle.store.specs.Cells.{Room};
-ghost use Rattle.store.specs.Nodes.{treeAt};
+ghost use Rattle.store.specs.Nodes.{tree-in};
 ghost use Rattle.store.specs.Store.{Ready};
 ghost use Rattle.sexp.specs.Lists.{Items};
 ghost use Rattle.patterns.specs.Patterns.{Patterned};
-ghost use Rattle.rules.specs.Work.{spentOf, with-last, Did};
+ghost use Rattle.run_state.specs.Work.{spentOf, with-last, Did};
 ghost use Rattle.driver_parts.specs.Turns.{optimizer, Simple, kept, Begun, outcome-of};
 ghost use Rattle.driver_parts.specs.Walk.{made-list, sets-flag, wrap, Walked};
 
@@ -23,7 +23,7 @@ ghost use Rattle.driver_parts.specs.Walk.{made-list, sets-flag, wrap, Wa
 // An operand that `non_constant_count` counts: a pair headed by an atom other than the byte 1.
 fn non_constant_node<'a>(form: &'a [u8], room: &'a [u8], n: usize) -> bool
     requires { ⌜ Room (now room) n ⌝ }
-    ensures { λ r. ⌜ r ≡ non-constant (treeAt (now (form .entry)) (now (room .entry)) n) ⌝ }
+    ensures { λ r. ⌜ r ≡ non-constant (tree-in form room n) ⌝ }
 {
     match store::look_node(room, n) {
         Cell::Pair(o, _) => match store::look_node(room, o) {
@@ -44,7 +44,7 @@ pub fn flag_after<'a>(
     flag: bool,
 ) -> bool
     requires { ⌜ Room (now room) n ⌝ }
-    ensures { λ r. ⌜ r ≡ (flag || sets-flag count moved (treeAt (now (form .entry)) (now (room .entry)) n)) ⌝ }
+    ensures { λ r. ⌜ r ≡ (flag || sets-flag count moved (tree-in form room n)) ⌝ }
 {
     if flag {
         return true;
@@ -74,14 +74,14 @@ pub fn build(
     make: bool,
 ) -> Work
     requires { ⌜ Ready (now form) (now room) (w .ch) tail × Items (now room) (w .ch) got k ⌝ }
-    ensures { λ r. ⌜ Walked (now (form .entry)) (now (room .entry)) (now (room .exit)) w (wrap (now (form .entry)) (now (room .entry)) got k (done (ending make (treeAt (now (form .entry)) (now (room .entry)) tail)) (spentOf w))) r ⌝ }
+    ensures { λ r. ⌜ Walked (now (form .entry)) (now (room .entry)) (now (room .exit)) w (wrap (now (form .entry)) (now (room .entry)) got k (done (ending make (tree-in form room tail)) (spentOf w))) r ⌝ }
 {
     if !make {
-        return rules::with(w, Outcome::Same);
+        return run_state::with(w, Outcome::Same);
     }
     let ch = w.ch;
     let m = sexp::enlist_node(form, room, ch, &got, k, tail);
-    rules::put(w, m)
+    run_state::put(w, m)
 }
 
 // ---- rule 4
@@ -89,14 +89,14 @@ pub fn build(
 // The changed body m of r is given back: the mark goes by that, even where m equals r.
 pub fn keep(form: &[u8], room: &mut [u8], w: Work, r: usize, m: usize, low: bool) -> Work
     requires { ⌜ Ready (now form) (now room) (w .ch) r × Ready (now form) (now room) (w .ch) m ⌝ }
-    ensures { λ a. ⌜ Did (now (form .entry)) (now (room .entry)) (now (room .exit)) w (treeAt (now (form .entry)) (now (room .entry)) r) (kept low (treeAt (now (form .entry)) (now (room .entry)) m) (spentOf w)) a ⌝ }
+    ensures { λ a. ⌜ Did (now (form .entry)) (now (room .entry)) (now (room .exit)) w (tree-in form room r) (kept low (tree-in form room m) (spentOf w)) a ⌝ }
 {
     let ch = w.ch;
-    let k = rules::marked(w, low);
+    let k = run_state::marked(w, low);
     if sexp::equal_node(form, room, ch, r, m) {
-        return rules::with(k, Outcome::Same);
+        return run_state::with(k, Outcome::Same);
     }
-    rules::with(k, Outcome::Changed(m))
+    run_state::with(k, Outcome::Changed(m))
 }
 
 // ---- the rules that do not call the driver
@@ -104,7 +104,7 @@ pub fn keep(form: &[u8], room: &mut [u8], w: Work, r: usize, m: usize, low: bool
 // Rules 1 to 3 and 6 to 8, by number.
 pub fn simple(form: &[u8], room: &mut [u8], p: Patterns, w: Work, n: usize, rule: usize) -> Work
     requires { ⌜ Ready (now form) (now room) (w .ch) n × Patterned (now form) (now room) (w .ch) p × Simple rule ⌝ }
-    ensures { λ q. ⌜ Did (now (form .entry)) (now (room .entry)) (now (room .exit)) w (treeAt (now (form .entry)) (now (room .entry)) n) (optimizer give rule (treeAt (now (form .entry)) (now (room .entry)) n) (spentOf w)) q ⌝ }
+    ensures { λ q. ⌜ Did (now (form .entry)) (now (room .entry)) (now (room .exit)) w (tree-in form room n) (optimizer give rule (tree-in form room n) (spentOf w)) q ⌝ }
 {
     if rule == 1 {
         return rules::cons_optimizer(form, room, p, w, n);
@@ -132,10 +132,10 @@ pub fn begin<'a>(form: &'a [u8], room: &'a [u8], w: Work, n: usize) -> Work
     ensures { λ q. ⌜ Begun (now (form .entry)) (now (room .entry)) w n q ⌝ }
 {
     match store::look_node(room, n) {
-        Cell::Atom => rules::with(w, Outcome::Changed(n)),
+        Cell::Atom => run_state::with(w, Outcome::Changed(n)),
         Cell::Pair(_, _) => {
             if 65536 <= w.passes {
-                return rules::with(w, Outcome::Stopped(Refusal::PassesOut));
+                return run_state::with(w, Outcome::Stopped(Refusal::PassesOut));
             }
             let c = w.ch;
             Work {
@@ -153,7 +153,7 @@ pub fn finish(w: Work, r: usize, moved: bool) -> Work
     ensures { λ q. ⌜ q ≡ with-last w (outcome-of moved r) ⌝ }
 {
     if moved {
-        return rules::with(w, Outcome::Changed(r));
+        return run_state::with(w, Outcome::Changed(r));
     }
-    rules::with(w, Outcome::Same)
+    run_state::with(w, Outcome::Same)
 }

@@ -1,4 +1,2 @@
-pub mod Later
-pub mod Both
 pub mod Bytes
 pub mod OnlyOne

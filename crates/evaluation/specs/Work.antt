@@ -1,9 +1,8 @@
--- What the steps of an evaluation on bytes promise one another.
-use Prim.Native.Nat.{ℕ, _≤_}
+-- What the work of an evaluation on bytes promises.
+use Prim.Native.Nat.{ℕ}
 use mathlib.Core.Path.{_≡_}
 use mathlib.Core.List.{List}
 use mathlib.Core.Option.{some}
-use lib.ListN.{length, take, drop}
 use Rattle.meaning.specs.Tree.{Tree}
 use Rattle.meaning.specs.Meter.{Out, done, Steps}
 use Rattle.store.specs.Nodes.{treeAt}
@@ -12,12 +11,6 @@ use Rattle.evaluator.specs.declared.Meter.{Meter}
 use Rattle.evaluator.specs.declared.Valued.{Valued}
 use Rattle.evaluator.specs.declared.Valued.the-variants.{Value, Refused}
 use Rattle.evaluator.specs.Values.{state, stopped}
-
--- the first n bytes and the rest, with the cut inside
-pub record Cut (f : List ℕ) (n r : ℕ) : Type 0 where
-  pub within : r ≤ length f
-  pub front : take r f ≡ take n f
-  pub back : drop r f ≡ drop n f
 
 -- the value of both forms stands at the node q
 pub record WorkedTo (f s : List ℕ) (m : Meter) (q : ℕ) (o : Out Steps Tree) : Type 0 where

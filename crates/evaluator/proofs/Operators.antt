@@ -101,9 +101,6 @@ pub no-nil : (f s : List ℕ) (m : Meter) (ans : Bool) → Held f s (m .ch) → 
 unfolding yes-no
 no-nil f s m ans h n = rw n (picked f s m 0 (atom []) (nil-ready f s (m .ch) h) (h .nilAt))
 
-pub bytes-are : (f s x y : List ℕ) (a b : ℕ) (r : Bool) → r ≡ same-bytes x y → x ≡ bytesAt f s a → y ≡ bytesAt f s b → r ≡ same-bytes (bytesAt f s a) (bytesAt f s b)
-bytes-are f s x y a b r e ex ey = rw (← ex, ← ey) e
-
 -- ---- after a look at n
 
 module _ (f s s′ : List ℕ) (m : Meter) (n : ℕ) (q : Cell) where

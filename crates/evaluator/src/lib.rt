@@ -4,7 +4,7 @@ use store::Cell;
 use store::Charges;
 use store::Made;
 ghost use mathlib.Core.Path.{_≡_};
-ghost use Rattle.meaning.specs.Tree.{pair, proper-list, same-bytes};
+ghost use Rattle.meaning.specs.Tree.{pair, proper-list};
 ghost use Rattle.meaning.specs.Number.{number, lookup};
 ghost use Rattle.meaning.specs.Limits.{pair-cost};
 ghost use Rattle.meaning.specs.Operator.{makes, yes-no, chosen, left-of, right-of, is-pair, same-atom};
@@ -14,7 +14,7 @@ ghost use Rattle.meaning.specs.Operator.{perform as Operator·perform};
 ghost use Rattle.meaning.specs.Evaluate.{foundB, finishB, each-valueB, callB, evaluate};
 ghost use Rattle.store.specs.declared.Cell.the-variants.{Atom};
 ghost use Rattle.store.specs.Cells.{Room, cellAt, bytesAt};
-ghost use Rattle.store.specs.Nodes.{treeAt};
+ghost use Rattle.store.specs.Nodes.{tree-in};
 ghost use Rattle.store.specs.Store.{Held, Ready};
 ghost use Rattle.evaluator.specs.Heads.{op-of, head-as, head-tree, accepted, items, args-of};
 ghost use Rattle.evaluator.specs.Values.{state, ValuedOk, Nodes, put-value, ArgsOk, PerformedOk};
@@ -73,7 +73,7 @@ pub enum Performed {
 // The part of env that the path at node n leads to.
 fn path_node<'a>(form: &'a [u8], room: &'a [u8], m: Meter, n: usize, env: usize) -> Valued
     requires { ⌜ Ready (now form) (now room) (m .ch) n × Ready (now form) (now room) (m .ch) env × (cellAt (now room) n ≡ Atom) ⌝ }
-    ensures { λ r. ⌜ ValuedOk (now (form .entry)) (now (room .entry)) (now (room .entry)) m (foundB (lookup (number (bytesAt (now (form .entry)) (now (room .entry)) n)) (treeAt (now (form .entry)) (now (room .entry)) env)) (state m)) r ⌝ }
+    ensures { λ r. ⌜ ValuedOk (now (form .entry)) (now (room .entry)) (now (room .entry)) m (foundB (lookup (number (bytesAt (now (form .entry)) (now (room .entry)) n)) (tree-in form room env)) (state m)) r ⌝ }
 {
     let b = store::atom_bytes(form, room, n);
     if paths::is_zero(b) {
@@ -126,7 +126,7 @@ fn head_of(b: &[u8]) -> Head
 
 fn head_node<'a>(form: &'a [u8], room: &'a [u8], n: usize) -> Head
     requires { ⌜ Room (now room) n ⌝ }
-    ensures { λ r. ⌜ head-as r ≡ head-tree (treeAt (now (form .entry)) (now (room .entry)) n) ⌝ }
+    ensures { λ r. ⌜ head-as r ≡ head-tree (tree-in form room n) ⌝ }
 {
     match store::look_node(room, n) {
         Cell::Pair(_, _) => Head::Other,
@@ -153,7 +153,7 @@ fn takes(op: Operator, k: usize) -> bool
 // The list ends in nil, and has as many elements as the operator takes.
 fn accepts<'a>(form: &'a [u8], room: &'a [u8], op: Operator, list: usize) -> bool
     requires { ⌜ Room (now room) list ⌝ }
-    ensures { λ r. ⌜ r ≡ accepted (op-of op) (proper-list (treeAt (now (form .entry)) (now (room .entry)) list)) ⌝ }
+    ensures { λ r. ⌜ r ≡ accepted (op-of op) (proper-list (tree-in form room list)) ⌝ }
 {
     let mut p = list;
     let mut k: usize = 0;
@@ -206,7 +206,7 @@ fn yes_no(form: &[u8], room: &mut [u8], m: Meter, yes: bool) -> Valued
 // `i`: a nil condition picks the third.
 fn choose<'a>(form: &'a [u8], room: &'a [u8], m: Meter, v: Values) -> Valued
     requires { ⌜ Nodes (now form) (now room) (m .ch) v ⌝ }
-    ensures { λ r. ⌜ ValuedOk (now (form .entry)) (now (room .entry)) (now (room .entry)) m (finishB evaluate (makes (chosen (treeAt (now (form .entry)) (now (room .entry)) (v .a)) (treeAt (now (form .entry)) (now (room .entry)) (v .b)) (treeAt (now (form .entry)) (now (room .entry)) (v .c))) 0) (state m)) r ⌝ }
+    ensures { λ r. ⌜ ValuedOk (now (form .entry)) (now (room .entry)) (now (room .entry)) m (finishB evaluate (makes (chosen (tree-in form room (v .a)) (tree-in form room (v .b)) (tree-in form room (v .c))) 0) (state m)) r ⌝ }
 {
     if sexp::is_nil_node(form, room, v.a) {
         return Valued::Value(v.c, m);
@@ -217,7 +217,7 @@ fn choose<'a>(form: &'a [u8], room: &'a [u8], m: Meter, v: Values) -> Valued
 // `c`
 fn cons(form: &[u8], room: &mut [u8], m: Meter, l: usize, r: usize) -> Valued
     requires { ⌜ Ready (now form) (now room) (m .ch) l × Ready (now form) (now room) (m .ch) r ⌝ }
-    ensures { λ a. ⌜ ValuedOk (now (form .entry)) (now (room .entry)) (now (room .exit)) m (finishB evaluate (makes (pair (treeAt (now (form .entry)) (now (room .entry)) l) (treeAt (now (form .entry)) (now (room .entry)) r)) pair-cost) (state m)) a ⌝ }
+    ensures { λ a. ⌜ ValuedOk (now (form .entry)) (now (room .entry)) (now (room .exit)) m (finishB evaluate (makes (pair (tree-in form room l) (tree-in form room r)) pair-cost) (state m)) a ⌝ }
 {
     let ch = m.ch;
     metered(store::pair_node(form, room, ch, l, r), m.steps)
@@ -226,7 +226,7 @@ fn cons(form: &[u8], room: &mut [u8], m: Meter, l: usize, r: usize) -> Valued
 // `f`
 fn first<'a>(form: &'a [u8], room: &'a [u8], m: Meter, n: usize) -> Valued
     requires { ⌜ Ready (now form) (now room) (m .ch) n ⌝ }
-    ensures { λ r. ⌜ ValuedOk (now (form .entry)) (now (room .entry)) (now (room .entry)) m (finishB evaluate (left-of (treeAt (now (form .entry)) (now (room .entry)) n)) (state m)) r ⌝ }
+    ensures { λ r. ⌜ ValuedOk (now (form .entry)) (now (room .entry)) (now (room .entry)) m (finishB evaluate (left-of (tree-in form room n)) (state m)) r ⌝ }
 {
     match store::look_node(room, n) {
         Cell::Pair(l, _) => Valued::Value(l, m),
@@ -237,7 +237,7 @@ fn first<'a>(form: &'a [u8], room: &'a [u8], m: Meter, n: usize) -> Valued
 // `r`
 fn rest<'a>(form: &'a [u8], room: &'a [u8], m: Meter, n: usize) -> Valued
     requires { ⌜ Ready (now form) (now room) (m .ch) n ⌝ }
-    ensures { λ r. ⌜ ValuedOk (now (form .entry)) (now (room .entry)) (now (room .entry)) m (finishB evaluate (right-of (treeAt (now (form .entry)) (now (room .entry)) n)) (state m)) r ⌝ }
+    ensures { λ r. ⌜ ValuedOk (now (form .entry)) (now (room .entry)) (now (room .entry)) m (finishB evaluate (right-of (tree-in form room n)) (state m)) r ⌝ }
 {
     match store::look_node(room, n) {
         Cell::Pair(_, r) => Valued::Value(r, m),
@@ -248,7 +248,7 @@ fn rest<'a>(form: &'a [u8], room: &'a [u8], m: Meter, n: usize) -> Valued
 // `l`
 fn listp(form: &[u8], room: &mut [u8], m: Meter, n: usize) -> Valued
     requires { ⌜ Ready (now form) (now room) (m .ch) n ⌝ }
-    ensures { λ r. ⌜ ValuedOk (now (form .entry)) (now (room .entry)) (now (room .exit)) m (finishB evaluate (yes-no (is-pair (treeAt (now (form .entry)) (now (room .entry)) n))) (state m)) r ⌝ }
+    ensures { λ r. ⌜ ValuedOk (now (form .entry)) (now (room .entry)) (now (room .exit)) m (finishB evaluate (yes-no (is-pair (tree-in form room n))) (state m)) r ⌝ }
 {
     match store::look_node(room, n) {
         Cell::Pair(_, _) => yes_no(form, room, m, true),
@@ -256,26 +256,17 @@ fn listp(form: &[u8], room: &mut [u8], m: Meter, n: usize) -> Valued
     }
 }
 
-fn equal_bytes<'a>(form: &'a [u8], room: &'a [u8], a: usize, b: usize) -> bool
-    requires { ⌜ Room (now room) a × Room (now room) b ⌝ }
-    ensures { λ r. ⌜ r ≡ same-bytes (bytesAt (now (form .entry)) (now (room .entry)) a) (bytesAt (now (form .entry)) (now (room .entry)) b) ⌝ }
-{
-    let x = store::atom_bytes(form, room, a);
-    let y = store::atom_bytes(form, room, b);
-    sexp::same_bytes(x, y)
-}
-
 // `=`
 fn same(form: &[u8], room: &mut [u8], m: Meter, a: usize, b: usize) -> Valued
     requires { ⌜ Ready (now form) (now room) (m .ch) a × Ready (now form) (now room) (m .ch) b ⌝ }
-    ensures { λ r. ⌜ ValuedOk (now (form .entry)) (now (room .entry)) (now (room .exit)) m (finishB evaluate (same-atom (treeAt (now (form .entry)) (now (room .entry)) a) (treeAt (now (form .entry)) (now (room .entry)) b)) (state m)) r ⌝ }
+    ensures { λ r. ⌜ ValuedOk (now (form .entry)) (now (room .entry)) (now (room .exit)) m (finishB evaluate (same-atom (tree-in form room a) (tree-in form room b)) (state m)) r ⌝ }
 {
     match store::look_node(room, a) {
         Cell::Pair(_, _) => Valued::Refused(Refusal::Fails),
         Cell::Atom => match store::look_node(room, b) {
             Cell::Pair(_, _) => Valued::Refused(Refusal::Fails),
             Cell::Atom => {
-                let yes = equal_bytes(form, room, a, b);
+                let yes = sexp::same_atoms(form, room, a, b);
                 yes_no(form, room, m, yes)
             }
         },
@@ -284,7 +275,7 @@ fn same(form: &[u8], room: &mut [u8], m: Meter, a: usize, b: usize) -> Valued
 
 fn perform(form: &[u8], room: &mut [u8], m: Meter, op: Operator, v: Values) -> Performed
     requires { ⌜ Nodes (now form) (now room) (m .ch) v ⌝ }
-    ensures { λ r. ⌜ PerformedOk (now (form .entry)) (now (room .entry)) (now (room .exit)) m (Operator·perform (op-of op) (args-of (op-of op) (treeAt (now (form .entry)) (now (room .entry)) (v .a)) (treeAt (now (form .entry)) (now (room .entry)) (v .b)) (treeAt (now (form .entry)) (now (room .entry)) (v .c)))) r ⌝ }
+    ensures { λ r. ⌜ PerformedOk (now (form .entry)) (now (room .entry)) (now (room .exit)) m (Operator·perform (op-of op) (args-of (op-of op) (tree-in form room (v .a)) (tree-in form room (v .b)) (tree-in form room (v .c)))) r ⌝ }
 {
     match op {
         Operator::Apply => Performed::Runs(v.a, v.b),
@@ -331,7 +322,7 @@ fn with(v: Values, k: usize, n: usize) -> Values
 // The values of all arguments, left to right.
 fn eval_each(form: &[u8], room: &mut [u8], m: Meter, list: usize, env: usize) -> Args
     requires { ⌜ Ready (now form) (now room) (m .ch) list × Ready (now form) (now room) (m .ch) env ⌝ }
-    ensures { λ r. ⌜ ArgsOk (now (form .entry)) (now (room .entry)) (now (room .exit)) m (each-valueB evaluate (items (treeAt (now (form .entry)) (now (room .entry)) list)) (treeAt (now (form .entry)) (now (room .entry)) env) (state m)) r ⌝ }
+    ensures { λ r. ⌜ ArgsOk (now (form .entry)) (now (room .entry)) (now (room .exit)) m (each-valueB evaluate (items (tree-in form room list)) (tree-in form room env) (state m)) r ⌝ }
 {
     let mut s = m;
     let mut p = list;
@@ -360,7 +351,7 @@ fn eval_each(form: &[u8], room: &mut [u8], m: Meter, list: usize, env: usize) ->
 // A call of an operator: the argument list and its count first, then all arguments, then what they are.
 fn call(form: &[u8], room: &mut [u8], m: Meter, op: Operator, list: usize, env: usize) -> Valued
     requires { ⌜ Ready (now form) (now room) (m .ch) list × Ready (now form) (now room) (m .ch) env ⌝ }
-    ensures { λ r. ⌜ ValuedOk (now (form .entry)) (now (room .entry)) (now (room .exit)) m (callB evaluate (op-of op) (proper-list (treeAt (now (form .entry)) (now (room .entry)) list)) (treeAt (now (form .entry)) (now (room .entry)) env) (state m)) r ⌝ }
+    ensures { λ r. ⌜ ValuedOk (now (form .entry)) (now (room .entry)) (now (room .exit)) m (callB evaluate (op-of op) (proper-list (tree-in form room list)) (tree-in form room env) (state m)) r ⌝ }
 {
     if !accepts(form, room, op, list) {
         return Valued::Refused(Refusal::Fails);
@@ -377,7 +368,7 @@ fn call(form: &[u8], room: &mut [u8], m: Meter, op: Operator, list: usize, env: 
 // The value of the expression e in env. Every expression takes a step as it begins.
 pub fn eval_node(form: &[u8], room: &mut [u8], m: Meter, e: usize, env: usize) -> Valued
     requires { ⌜ Ready (now form) (now room) (m .ch) e × Ready (now form) (now room) (m .ch) env ⌝ }
-    ensures { λ r. ⌜ ValuedOk (now (form .entry)) (now (room .entry)) (now (room .exit)) m (evaluate (treeAt (now (form .entry)) (now (room .entry)) e) (treeAt (now (form .entry)) (now (room .entry)) env) (state m)) r ⌝ }
+    ensures { λ r. ⌜ ValuedOk (now (form .entry)) (now (room .entry)) (now (room .exit)) m (evaluate (tree-in form room e) (tree-in form room env) (state m)) r ⌝ }
 {
     if 4096 <= m.steps {
         return Valued::Refused(Refusal::StepsOut);

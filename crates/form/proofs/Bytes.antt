@@ -1,19 +1,17 @@
 -- Reading and writing on bytes alone: what each return needs. Assumes nothing.
-use mathlib.Core.Path.{_≡_, refl, sym, _∙_, ap}
+use mathlib.Core.Path.{_≡_, refl, sym}
 use mathlib.Core.List.{List, [], _∷_}
-use mathlib.Core.Bool.{Bool, true, false}
 use Prim.Native.Nat.{ℕ, zero, suc, _<_, _≤_}
 use native.Mathlib.Omega.{arith}
 use lib.ListN.{length}
-use lib.Dec.{leb}
-use borrow.Author.Tests.{le-leb, lt-leb, ne-eqb}
 use Rattle.refusals.specs.declared.Refusal.{Refusal}
 use Rattle.refusals.specs.declared.Refusal.the-variants.{RoomSmall, OutputShort}
-use Rattle.refusals.specs.Numbers.{number-of}
 use Rattle.meaning.specs.Tree.{Tree}
 use Rattle.meaning.specs.Limits.{room-least}
 use Rattle.meaning.specs.Form.{read-form, write}
-use Rattle.meaning.specs.Run.{zeroed}
+use Rattle.meaning.specs.Outcome.{plain, deliver-tree, ended, zeroed, out-after, told, Delivers, Settles}
+use Rattle.meaning.proofs.Late.{late-read}
+use Rattle.meaning.proofs.Lent.{Zeros, zeros-answered, zeros-tree, zeros-ended, ended-refused, ended-done, small-settles, zeroed-settles}
 use Rattle.store.specs.declared.Charges.{Charges}
 use Rattle.store.specs.declared.Cell.{Cell}
 use Rattle.store.specs.declared.Cell.the-variants.{Pair, Atom}
@@ -30,10 +28,9 @@ use Rattle.form.specs.declared.WriteAnswer.{WriteAnswer}
 use Rattle.form.specs.declared.WriteAnswer.the-variants.{Written, Refused as not-written}
 use Rattle.form.specs.Spans.{Stops, stops}
 use Rattle.form.specs.Reads.{WholeTo, WholeOk}
-use Rattle.form.specs.Writes.{Short, Writable, Wrote, extent}
-use Rattle.form.specs.Bytes.{answered, refused, read-within, read-outcome, delivered, write-outcome, out-after, room-after, read-says, read-told, write-says, write-told, Reads, Delivers, Writes}
-use Rattle.form.proofs.Refusals.{form-later}
-use Rattle.form.proofs.Writer.{extent-over, extent-long}
+use Rattle.form.specs.Writes.{Short, Writable, Delivered}
+use Rattle.form.specs.Bytes.{delivered-read, read-outcome, delivered-write, write-outcome, read-says, write-says}
+use Rattle.form.proofs.Delivering.{tree-short, tree-long}
 
 -- ---- a node of the store can be written
 
@@ -54,91 +51,66 @@ node-writable f s c n h = record { room = ready.room f s c n h; short = go (suc 
 
 -- ---- delivering
 
-pub deliver-fits : (limit n m : ℕ) (r : Extent) → r ≡ extent limit n → r ≡ Long m → n ≤ limit
-deliver-fits limit n m r e f = extent-long limit n m r e f .fits
+module _ (t : Tree) (units : ℕ) (w w₁ : List ℕ) (r : Extent) (d : Delivered (write t) w w₁ r) where
+  pub deliver-short : r ≡ Over → Delivers write-says (deliver-tree (length w) t (units ∷ [])) w w₁ (not-written OutputShort)
+  unfolding write-says
+  deliver-short i = tree-short write-says t (units ∷ []) w w₁ r d (not-written OutputShort) refl i
 
-module _ (out : List ℕ) (t : Tree) (units : ℕ) (r : Extent) (e : r ≡ extent (length out) (length (write t))) where
-  pub deliver-short : r ≡ Over → Delivers (delivered (length out) t units) out out (not-written OutputShort)
-  unfolding delivered write-says write-told out-after
-  deliver-short f = rw (lt-leb (length (write t)) (length out) (extent-over (length out) (length (write t)) r e f), delivered) (record { answer = refl; out = refl })
-
-  pub deliver-done : (out₁ : List ℕ) (k m : ℕ) → Wrote (write t) k out out₁ → r ≡ Long m → Delivers (delivered (length out) t units) out out₁ (Written k units)
-  unfolding delivered write-says write-told out-after
-  deliver-done out₁ k m d f =
-      rw (le-leb (length (write t)) (length out) (deliver-fits (length out) (length (write t)) m r e f), delivered)
-      (record { answer = rw (d .count); out = d .bytes })
-
--- ---- the room
-
-zeroed-same : (a b : List ℕ) → length a ≡ length b → zeroed a ≡ zeroed b
-unfolding zeroed
-zeroed-same [] [] e = refl
-zeroed-same [] (y ∷ b) e = absurd (omega arith)
-zeroed-same (x ∷ a) [] e = absurd (omega arith)
-zeroed-same (x ∷ a) (y ∷ b) e = ap (λ (l : List ℕ). 0 ∷ l) (zeroed-same a b (omega arith))
-
-room-later : (n : Refusal) (room : List ℕ) → 2 ≤ number-of n → room-after (refused n) room ≡ zeroed room
-unfolding room-after
-room-later n room h = rw (ne-eqb (number-of n) 1 (λ e. omega arith), room-after)
-
--- delivering is no refusal 1 either
-delivered-room : (limit : ℕ) (t : Tree) (units : ℕ) (room : List ℕ) → room-after (delivered limit t units) room ≡ zeroed room
-unfolding delivered room-after
-delivered-room limit t units room = go (leb (length (write t)) limit)
-  where
-    go : (b : Bool) → room-after (elim b [ true ↦ answered (write t) units | false ↦ refused OutputShort ]) room ≡ zeroed room
-    go true = refl
-    go false = refl
+  pub deliver-done : (k : ℕ) → r ≡ Long k → Delivers write-says (deliver-tree (length w) t (units ∷ [])) w w₁ (Written k units)
+  unfolding write-says
+  deliver-done k i = tree-long write-says t (units ∷ []) w w₁ r d (Written k units) k refl i
 
 -- ---- reading
 
 module _ (f s : List ℕ) where
-  within : room-least ≤ length s → read-within f (length s) ≡ read-form f 0
-  unfolding read-within
-  within h = rw (le-leb room-least (length s) h, read-within)
+  pub read-small : length s < room-least → Settles read-says (read-outcome f (length s)) s s [] [] (not-read RoomSmall)
+  unfolding read-outcome read-says
+  read-small h = small-settles read-says (ended delivered-read (read-form f 0)) s [] (not-read RoomSmall) refl h
 
-  pub read-small : length s < room-least → Reads (read-outcome f (length s)) s s (not-read RoomSmall)
-  unfolding read-outcome read-within read-says read-told room-after
-  read-small h = rw (lt-leb room-least (length s) h, read-outcome) (record { answer = refl; room = refl })
+  pub write-small : (w : List ℕ) → length s < room-least → Settles write-says (write-outcome f (length s) (length w)) s s w w (not-written RoomSmall)
+  unfolding write-outcome write-says
+  write-small w h = small-settles write-says (ended (delivered-write (length w)) (read-form f 0)) s w (not-written RoomSmall) refl h
 
-  pub write-small : (out : List ℕ) → length s < room-least → Writes (write-outcome f (length s) (length out)) s s out out (not-written RoomSmall)
-  unfolding write-outcome read-within write-says write-told room-after out-after
-  write-small out h = rw (lt-leb room-least (length s) h, write-outcome) (record { delivers = record { answer = refl; out = refl }; room = refl })
+  read-zeros : Zeros (ended delivered-read (read-form f 0))
+  unfolding delivered-read
+  read-zeros = zeros-ended delivered-read (λ t x. zeros-answered [] plain (x .units ∷ [])) (read-form f 0) (late-read f 0)
+
+  write-zeros : (n : ℕ) → Zeros (ended (delivered-write n) (read-form f 0))
+  unfolding delivered-write
+  write-zeros n = zeros-ended (delivered-write n) (λ t x. zeros-tree n t (x .units ∷ [])) (read-form f 0) (late-read f 0)
 
   module _ (s₁ s₂ : List ℕ) (z : s₂ ≡ zeroed s₁) (same : length s₁ ≡ length s) (h : room-least ≤ length s) (m : Made) (o : WholeOk f s₁ m) where
-    zeros : s₂ ≡ zeroed s
-    zeros = z ∙ zeroed-same s₁ s same
-
     stopped : (n : Refusal) → m ≡ not-made n → Stops (read-form f 0) n
     unfolding WholeOk
     stopped n e = rw e at o
 
-    pub read-refused : (n : Refusal) → m ≡ not-made n → Reads (read-outcome f (length s)) s s₂ (not-read n)
-    unfolding read-outcome read-says read-told
-    read-refused n e = go (stopped n e)
+    pub read-refused : (n : Refusal) → m ≡ not-made n → Settles read-says (read-outcome f (length s)) s s₂ [] [] (not-read n)
+    unfolding read-outcome read-says
+    read-refused n e = zeroed-settles read-says _ s s₁ s₂ [] [] (not-read n) (go (stopped n e)) read-zeros h z same
       where
-        go : Stops (read-form f 0) n → Reads (read-outcome f (length s)) s s₂ (not-read n)
-        go (stops t i) = rw (within h ∙ i, read-outcome) (record { answer = refl; room = zeros ∙ sym (room-later n s (form-later f 0 n (stops t i))) })
+        go : Stops (read-form f 0) n → Delivers read-says (ended delivered-read (read-form f 0)) [] [] (not-read n)
+        go (stops t i) = ended-refused read-says delivered-read (read-form f 0) n t [] (not-read n) i refl
 
-    pub write-refused : (n : Refusal) (out : List ℕ) → m ≡ not-made n → Writes (write-outcome f (length s) (length out)) s s₂ out out (not-written n)
-    unfolding write-outcome write-says write-told out-after
-    write-refused n out e = go (stopped n e)
+    pub write-refused : (n : Refusal) (w : List ℕ) → m ≡ not-made n → Settles write-says (write-outcome f (length s) (length w)) s s₂ w w (not-written n)
+    unfolding write-outcome write-says
+    write-refused n w e = zeroed-settles write-says _ s s₁ s₂ w w (not-written n) (go (stopped n e)) (write-zeros (length w)) h z same
       where
-        go : Stops (read-form f 0) n → Writes (write-outcome f (length s) (length out)) s s₂ out out (not-written n)
-        go (stops t i) = rw (within h ∙ i, write-outcome) (record { delivers = record { answer = refl; out = refl }; room = zeros ∙ sym (room-later n s (form-later f 0 n (stops t i))) })
+        go : Stops (read-form f 0) n → Delivers write-says (ended (delivered-write (length w)) (read-form f 0)) w w (not-written n)
+        go (stops t i) = ended-refused write-says (delivered-write (length w)) (read-form f 0) n t w (not-written n) i refl
 
     module _ (q : ℕ) (c : Charges) (e : m ≡ made q c) where
       whole : WholeTo f s₁ c q
       unfolding WholeOk
       whole = rw e at o
 
-      pub read-done : Reads (read-outcome f (length s)) s s₂ (Read (c .units))
-      unfolding read-outcome read-says read-told room-after
-      read-done = rw (within h ∙ whole .is, read-outcome) (record { answer = refl; room = zeros })
+      pub read-done : Settles read-says (read-outcome f (length s)) s s₂ [] [] (Read (c .units))
+      unfolding read-outcome read-says delivered-read told out-after
+      read-done = zeroed-settles read-says _ s s₁ s₂ [] [] (Read (c .units))
+          (ended-done read-says delivered-read (read-form f 0) (treeAt f s₁ q) _ [] [] (Read (c .units)) (whole .is) (record { answer = refl; out = refl })) read-zeros h z same
 
-      pub write-done : (out out₁ : List ℕ) (a : WriteAnswer) → Delivers (delivered (length out) (treeAt f s₁ q) (c .units)) out out₁ a → Writes (write-outcome f (length s) (length out)) s s₂ out out₁ a
-      unfolding write-outcome
-      write-done out out₁ a d = rw (within h ∙ whole .is, write-outcome) (record { delivers = d; room = zeros ∙ sym (delivered-room (length out) (treeAt f s₁ q) (c .units) s) })
+      pub write-done : (w w₁ : List ℕ) (a : WriteAnswer) → Delivers write-says (deliver-tree (length w) (treeAt f s₁ q) (c .units ∷ [])) w w₁ a → Settles write-says (write-outcome f (length s) (length w)) s s₂ w w₁ a
+      unfolding write-outcome delivered-write
+      write-done w w₁ a d = zeroed-settles write-says _ s s₁ s₂ w w₁ a (ended-done write-says (delivered-write (length w)) (read-form f 0) (treeAt f s₁ q) _ w w₁ a (whole .is) d) (write-zeros (length w)) h z same
 
 -- the whole form's node can be written
 pub whole-writable : (f s₁ : List ℕ) (m : Made) (q : ℕ) (c : Charges) → WholeOk f s₁ m → m ≡ made q c → Writable f s₁ q

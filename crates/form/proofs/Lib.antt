@@ -3,9 +3,11 @@ pub mod Lengths
 pub mod Trees
 pub mod Atoms
 pub mod Reader
-pub mod Refusals
 pub mod Form
 pub mod Lend
 pub mod Writer
+pub mod Delivering
+pub mod Both
 pub mod Bytes
 pub mod OnlyOne
+pub mod Back

@@ -1,4 +1,5 @@
 pub mod Spans
 pub mod Reads
 pub mod Writes
+pub mod Both
 pub mod Bytes

@@ -1,5 +1,5 @@
 -- What the writer of a node asks and promises.
-use Prim.Native.Nat.{ℕ, _≤_}
+use Prim.Native.Nat.{ℕ, _≤_, _<_}
 use mathlib.Core.Path.{_≡_}
 use mathlib.Core.List.{List, _++_}
 use mathlib.Core.Bool.{true, false}
@@ -30,3 +30,18 @@ pub record Wrote (w : List ℕ) (r : ℕ) (before after : List ℕ) : Type 0 whe
 -- n bytes, where a limit allows them
 unfoldable pub extent : ℕ → ℕ → Extent
 extent limit n = elim (leb n limit) [ true ↦ Long n | false ↦ Over ]
+
+-- ---- w delivered: written where the output has room for it
+
+pub record WroteAll (w : List ℕ) (k : ℕ) (before after : List ℕ) : Type 0 where
+  pub fits : length w ≤ length before
+  pub wrote : Wrote w k before after
+
+-- there was no room, and nothing was touched
+pub record WroteNone (w before after : List ℕ) : Type 0 where
+  pub over : length before < length w
+  pub kept : after ≡ before
+
+unfoldable pub Delivered : List ℕ → List ℕ → List ℕ → Extent → Type 0
+Delivered w before after (Long k) = WroteAll w k before after
+Delivered w before after Over = WroteNone w before after

@@ -3,19 +3,22 @@ use refusals::Refusal;
 use store::Cell;
 use store::Charges;
 use store::Made;
+use store::ROOM;
 ghost use mathlib.Core.Path.{_≡_};
-ghost use mathlib.Core.List.{_++_};
+ghost use mathlib.Core.List.{[], _∷_, _++_};
 ghost use mathlib.Core.Bool.{true};
 ghost use Prim.Native.Nat.{_+_, _≤_, _<_};
-ghost use lib.ListN.{length, drop, getD};
+ghost use lib.ListN.{length, take, drop, getD};
 ghost use Rattle.meaning.specs.Limits.{form-limit, room-least};
 ghost use Rattle.meaning.specs.Form.{limits, more, sized, length-from, needs-prefix, read-long, write-atom, write};
-ghost use Rattle.store.specs.Nodes.{treeAt};
+ghost use Rattle.meaning.specs.Outcome.{deliver-tree, Delivers, Settles};
+ghost use Rattle.store.specs.Nodes.{treeAt, tree-in};
 ghost use Rattle.store.specs.Store.{Held, atom-most};
 ghost use Rattle.form.specs.Spans.{left-from, next-tree, Opens, LengthOk};
 ghost use Rattle.form.specs.Reads.{Stretch, ReadOk, FormOk, WholeOk, reading-of};
-ghost use Rattle.form.specs.Writes.{Writable, Wrote, extent};
-ghost use Rattle.form.specs.Bytes.{read-outcome, write-outcome, delivered, Reads, Delivers, Writes};
+ghost use Rattle.form.specs.Writes.{Writable, Wrote, extent, Delivered};
+ghost use Rattle.form.specs.Both.{read-both, Cut, TwoOk};
+ghost use Rattle.form.specs.Bytes.{read-outcome, write-outcome, read-says, write-says};
 
 // The node read, where the next byte stands, and the charges; or a refusal.
 pub enum Reading {
@@ -35,6 +38,12 @@ pub enum Extent {
     Over,
 }
 
+// The nodes of two forms and the charges after both; or a refusal.
+pub enum Two {
+    Nodes(usize, usize, Charges),
+    Refused(Refusal),
+}
+
 // What `read` answers: the units that the form costs.
 pub enum ReadAnswer {
     Read(usize),
@@ -50,8 +59,6 @@ pub enum WriteAnswer {
 const FORM: usize = 8192;
 
 const ATOM: usize = 64;
-
-const ROOM: usize = 65536;
 
 // ---- the prefix of an atom
 
@@ -279,7 +286,7 @@ fn atom_length(b: &[u8]) -> usize
 // a tree may be far larger than its store: every node looked at takes a byte of the limit.
 pub fn length_node<'a>(form: &'a [u8], room: &'a [u8], n: usize, limit: usize) -> Extent
     requires { ⌜ Writable (now form) (now room) n ⌝ }
-    ensures { λ r. ⌜ r ≡ extent limit (length (write (treeAt (now (form .entry)) (now (room .entry)) n))) ⌝ }
+    ensures { λ r. ⌜ r ≡ extent limit (length (write (tree-in form room n))) ⌝ }
 {
     match store::look_node(room, n) {
         Cell::Pair(l, r) => {
@@ -366,7 +373,7 @@ fn put_atom(b: &[u8], out: &mut [u8]) -> usize
 // what remains of the output after the left.
 pub fn write_node<'a>(form: &'a [u8], room: &'a [u8], n: usize, out: &mut [u8]) -> usize
     requires { ⌜ Writable (now form) (now room) n × (length (write (treeAt (now form) (now room) n)) ≤ length (now out)) ⌝ }
-    ensures { λ r. ⌜ Wrote (write (treeAt (now (form .entry)) (now (room .entry)) n)) r (now (out .entry)) (now (out .exit)) ⌝ }
+    ensures { λ r. ⌜ Wrote (write (tree-in form room n)) r (now (out .entry)) (now (out .exit)) ⌝ }
 {
     match store::look_node(room, n) {
         Cell::Pair(l, r) => {
@@ -378,6 +385,54 @@ pub fn write_node<'a>(form: &'a [u8], room: &'a [u8], n: usize, out: &mut [u8]) 
         }
         Cell::Atom => put_atom(store::atom_bytes(form, room, n), out),
     }
+}
+
+// Writes the tree of node n to the front of out where it fits: measured first, so that refusal 14 leaves the output as it came in.
+pub fn deliver_node<'a>(form: &'a [u8], room: &'a [u8], n: usize, out: &mut [u8]) -> Extent
+    requires { ⌜ Writable (now form) (now room) n ⌝ }
+    ensures { λ r. ⌜ Delivered (write (tree-in form room n)) (now (out .entry)) (now (out .exit)) r ⌝ }
+{
+    match length_node(form, room, n, out.len()) {
+        Extent::Over => Extent::Over,
+        Extent::Long(_) => Extent::Long(write_node(form, room, n, out)),
+    }
+}
+
+// ---- two forms in one slice
+
+// Where the first form ends: all bytes are its own where there are no more than first.
+fn cut(forms: &[u8], first: usize) -> usize
+    ensures { λ r. ⌜ Cut (now (forms .entry)) first r ⌝ }
+{
+    if first < forms.len() {
+        first
+    } else {
+        forms.len()
+    }
+}
+
+// Reads forms[..mid] and then the rest, on one budget of units, whatever the room held.
+fn read_parts(forms: &[u8], room: &mut [u8], mid: usize) -> Two
+    requires { ⌜ (room-least ≤ length (now room)) × (mid ≤ length (now forms)) ⌝ }
+    ensures { λ r. ⌜ TwoOk (now (forms .entry)) (now (room .exit)) (read-both (take mid (now (forms .entry))) (drop mid (now (forms .entry)))) r ⌝ }
+{
+    let ch = store::start(forms, room);
+    match read_form(forms, room, 0, mid, ch) {
+        Made::Refused(e) => Two::Refused(e),
+        Made::Node(a, c) => match read_form(forms, room, mid, forms.len(), c) {
+            Made::Refused(e) => Two::Refused(e),
+            Made::Node(b, d) => Two::Nodes(a, b, d),
+        },
+    }
+}
+
+// Reads the first bytes as one form, and what follows them as another.
+pub fn read_two(forms: &[u8], room: &mut [u8], first: usize) -> Two
+    requires { ⌜ room-least ≤ length (now room) ⌝ }
+    ensures { λ r. ⌜ TwoOk (now (forms .entry)) (now (room .exit)) (read-both (take first (now (forms .entry))) (drop first (now (forms .entry)))) r ⌝ }
+{
+    let mid = cut(forms, first);
+    read_parts(forms, room, mid)
 }
 
 // ---- on bytes alone
@@ -393,7 +448,7 @@ fn read_whole(form: &[u8], room: &mut [u8]) -> Made
 
 // The units that the form costs. The room is all zero after, but for refusal 1.
 pub fn read(form: &[u8], room: &mut [u8]) -> ReadAnswer
-    ensures { λ r. ⌜ Reads (read-outcome (now (form .entry)) (length (now (room .entry)))) (now (room .entry)) (now (room .exit)) r ⌝ }
+    ensures { λ r. ⌜ Settles read-says (read-outcome (now (form .entry)) (length (now (room .entry)))) (now (room .entry)) (now (room .exit)) [] [] r ⌝ }
 {
     if room.len() < ROOM {
         return ReadAnswer::Refused(Refusal::RoomSmall);
@@ -415,17 +470,17 @@ fn deliver<'a>(
     out: &mut [u8],
 ) -> WriteAnswer
     requires { ⌜ Writable (now form) (now room) n ⌝ }
-    ensures { λ r. ⌜ Delivers (delivered (length (now (out .entry))) (treeAt (now (form .entry)) (now (room .entry)) n) units) (now (out .entry)) (now (out .exit)) r ⌝ }
+    ensures { λ r. ⌜ Delivers write-says (deliver-tree (length (now (out .entry))) (tree-in form room n) (units ∷ [])) (now (out .entry)) (now (out .exit)) r ⌝ }
 {
-    match length_node(form, room, n, out.len()) {
+    match deliver_node(form, room, n, out) {
         Extent::Over => WriteAnswer::Refused(Refusal::OutputShort),
-        Extent::Long(_) => WriteAnswer::Written(write_node(form, room, n, out), units),
+        Extent::Long(k) => WriteAnswer::Written(k, units),
     }
 }
 
 // Reads the form and writes its tree again. The room is all zero after, but for refusal 1.
 pub fn write(form: &[u8], room: &mut [u8], out: &mut [u8]) -> WriteAnswer
-    ensures { λ r. ⌜ Writes (write-outcome (now (form .entry)) (length (now (room .entry))) (length (now (out .entry)))) (now (room .entry)) (now (room .exit)) (now (out .entry)) (now (out .exit)) r ⌝ }
+    ensures { λ r. ⌜ Settles write-says (write-outcome (now (form .entry)) (length (now (room .entry))) (length (now (out .entry)))) (now (room .entry)) (now (room .exit)) (now (out .entry)) (now (out .exit)) r ⌝ }
 {
     if room.len() < ROOM {
         return WriteAnswer::Refused(Refusal::RoomSmall);

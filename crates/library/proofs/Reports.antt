@@ -1,18 +1,18 @@
--- From what each public function promises of its answer to what the library's function of the same work returns and reports. Assumes nothing.
+-- From what a public function promises of its answer to what the library's function of the same work returns and reports. Assumes nothing.
 use mathlib.Core.Path.{_≡_, refl, sym, _∙_, ap}
 use mathlib.Core.List.{List, [], _∷_}
 use mathlib.Core.Bool.{Bool, true, false}
 use Prim.Native.Nat.{ℕ}
-use lib.ListN.{length}
 use mir.Val.{boolByte}
 use Rattle.refusals.specs.declared.Refusal.{Refusal}
 use Rattle.refusals.specs.Numbers.{number-of}
-use Rattle.meaning.specs.Run as whole
+use Rattle.meaning.specs.Outcome.{Outcome, Told, Settles}
+use Rattle.meaning.specs.Run.{mark-number}
 use Rattle.form.specs.declared.ReadAnswer.{ReadAnswer}
 use Rattle.form.specs.declared.ReadAnswer.the-variants.{Read, Refused as not-read}
 use Rattle.form.specs.declared.WriteAnswer.{WriteAnswer}
 use Rattle.form.specs.declared.WriteAnswer.the-variants.{Written, Refused as not-written}
-use Rattle.form.specs.Bytes as forms
+use Rattle.form.specs.Bytes.{read-says, write-says}
 use Rattle.evaluation.specs.declared.EvalAnswer.{EvalAnswer}
 use Rattle.evaluation.specs.declared.EvalAnswer.the-variants.{Value, Refused as not-evaluated}
 use Rattle.evaluation.specs.Bytes as evaluation
@@ -23,8 +23,18 @@ use Rattle.matcher.specs.Outcome as matcher
 use Rattle.optimiser.specs.declared.Report.{Report}
 use Rattle.optimiser.specs.declared.Answer.{Answer}
 use Rattle.optimiser.specs.declared.Answer.the-variants.{Answered, Refused}
-use Rattle.optimiser.specs.Optimised.{Optimised, mark-number, told, answer-of}
-use Rattle.library.specs.Reports.{number-told, report-told, match-number, match-report, Optimises, Evaluates, Matches, Checks, Writes}
+use Rattle.optimiser.specs.Optimised as optimiser
+use Rattle.library.specs.Reports.{number-told, report-told, Reports}
+
+-- whatever an answer tells, the number and the report follow from it
+module _ {A : Type 0} (tells : A → Told) (o : Outcome) (s s₁ w w₁ q : List ℕ) (a b : A) (h : Settles tells o s s₁ w w₁ a) (i : a ≡ b) where
+  reported : (q₁ : List ℕ) (n : ℕ) → n ≡ number-told (tells b) → q₁ ≡ report-told (tells b) q → Reports o s s₁ w w₁ q q₁ n
+  reported q₁ n j k = let e : _ = sym (ap tells i) ∙ h .delivers .answer in record {
+    returns = j ∙ ap number-told e;
+    reports = k ∙ ap (λ (t : Told). report-told t q) e;
+    room = h .room;
+    out = h .delivers .out;
+  }
 
 -- ---- optimise
 
@@ -34,127 +44,63 @@ unfolding mark-number
 mark-byte true = refl
 mark-byte false = refl
 
-module _ (f s w s₁ w₁ q : List ℕ) (a : Answer) (h : Optimised f s w a s₁ w₁) where
-  optimise-says : (b : Answer) → a ≡ b → told b ≡ told (answer-of (whole.run f (length s) (length w)))
-  optimise-says b i = sym (ap told i) ∙ h .tells
+module _ (o : Outcome) (s s₁ w w₁ q : List ℕ) (a : Answer) (h : Settles optimiser.says o s s₁ w w₁ a) where
+  pub optimise-refused : (e : Refusal) (n : ℕ) → a ≡ Refused e → n ≡ number-of e → Reports o s s₁ w w₁ q q n
+  unfolding optimiser.says number-told report-told
+  optimise-refused e n i j = reported optimiser.says o s s₁ w w₁ q a (Refused e) h i q n j refl
 
-  pub optimise-refused : (e : Refusal) (n : ℕ) → a ≡ Refused e → n ≡ number-of e → Optimises (whole.run f (length s) (length w)) s s₁ w w₁ q q n
-  unfolding told number-told report-told
-  optimise-refused e n i j = let k : _ = optimise-says (Refused e) i in record {
-    returns = j ∙ ap number-told k;
-    reports = ap (λ (t : forms.Told). report-told t q) k;
-    room = h .leaves;
-    out = h .writes;
-  }
-
-  pub optimise-done : (r : Report) → a ≡ Answered r
-      → Optimises (whole.run f (length s) (length w)) s s₁ w w₁ q (r .length ∷ r .passes ∷ r .units ∷ boolByte (r .mark) ∷ []) 0
-  unfolding told number-told report-told
-  optimise-done r i = let k : _ = optimise-says (Answered r) i in record {
-    returns = ap number-told k;
-    reports = ap (λ (m : ℕ). r .length ∷ r .passes ∷ r .units ∷ m ∷ []) (mark-byte (r .mark)) ∙ ap (λ (t : forms.Told). report-told t q) k;
-    room = h .leaves;
-    out = h .writes;
-  }
+  pub optimise-done : (r : Report) → a ≡ Answered r → Reports o s s₁ w w₁ q (r .length ∷ r .passes ∷ r .units ∷ boolByte (r .mark) ∷ []) 0
+  unfolding optimiser.says number-told report-told
+  optimise-done r i = reported optimiser.says o s s₁ w w₁ q a (Answered r) h i _ 0 refl (ap (λ (m : ℕ). r .length ∷ r .passes ∷ r .units ∷ m ∷ []) (mark-byte (r .mark)))
 
 -- ---- evaluate
 
-module _ (o : evaluation.Outcome) (s w s₁ w₁ q : List ℕ) (a : EvalAnswer) (h : evaluation.Evaluates o s s₁ w w₁ a) where
-  evaluate-says : (b : EvalAnswer) → a ≡ b → evaluation.says b ≡ evaluation.told o
-  evaluate-says b i = sym (ap evaluation.says i) ∙ h .delivers .answer
-
-  pub evaluate-refused : (e : Refusal) (n : ℕ) → a ≡ not-evaluated e → n ≡ number-of e → Evaluates o s s₁ w w₁ q q n
+module _ (o : Outcome) (s s₁ w w₁ q : List ℕ) (a : EvalAnswer) (h : Settles evaluation.says o s s₁ w w₁ a) where
+  pub evaluate-refused : (e : Refusal) (n : ℕ) → a ≡ not-evaluated e → n ≡ number-of e → Reports o s s₁ w w₁ q q n
   unfolding evaluation.says number-told report-told
-  evaluate-refused e n i j = let k : _ = evaluate-says (not-evaluated e) i in record {
-    returns = j ∙ ap number-told k;
-    reports = ap (λ (t : forms.Told). report-told t q) k;
-    room = h .room;
-    out = h .delivers .out;
-  }
+  evaluate-refused e n i j = reported evaluation.says o s s₁ w w₁ q a (not-evaluated e) h i q n j refl
 
-  pub evaluate-done : (count steps units : ℕ) → a ≡ Value count steps units → Evaluates o s s₁ w w₁ q (count ∷ steps ∷ units ∷ []) 0
+  pub evaluate-done : (count steps units : ℕ) → a ≡ Value count steps units → Reports o s s₁ w w₁ q (count ∷ steps ∷ units ∷ []) 0
   unfolding evaluation.says number-told report-told
-  evaluate-done count steps units i = let k : _ = evaluate-says (Value count steps units) i in record {
-    returns = ap number-told k;
-    reports = ap (λ (t : forms.Told). report-told t q) k;
-    room = h .room;
-    out = h .delivers .out;
-  }
+  evaluate-done count steps units i = reported evaluation.says o s s₁ w w₁ q a (Value count steps units) h i _ 0 refl refl
 
 -- ---- match
 
-module _ (o : matcher.Outcome) (s w s₁ w₁ q : List ℕ) (a : MatchAnswer) (h : matcher.Matches o s s₁ w w₁ a) where
-  match-says : (b : MatchAnswer) → a ≡ b → matcher.says b ≡ matcher.told o
-  match-says b i = sym (ap matcher.says i) ∙ h .delivers .answer
+module _ (o : Outcome) (s s₁ w w₁ q : List ℕ) (a : MatchAnswer) (h : Settles matcher.says o s s₁ w w₁ a) where
+  pub match-refused : (e : Refusal) (n : ℕ) → a ≡ not-matched e → n ≡ number-of e → Reports o s s₁ w w₁ q q n
+  unfolding matcher.says number-told report-told
+  match-refused e n i j = reported matcher.says o s s₁ w w₁ q a (not-matched e) h i q n j refl
 
-  -- whatever is said, the number and the report follow from it
-  match-told : (q₁ : List ℕ) (n : ℕ) (t : matcher.Told) → t ≡ matcher.told o → n ≡ match-number t → q₁ ≡ match-report t q → Matches o s s₁ w w₁ q q₁ n
-  match-told q₁ n t k i j = record {
-    returns = i ∙ ap match-number k;
-    reports = j ∙ ap (λ (u : matcher.Told). match-report u q) k;
-    room = h .room;
-    out = h .delivers .out;
-  }
+  pub match-none : a ≡ NoMatch → Reports o s s₁ w w₁ q q 100
+  unfolding matcher.says number-told report-told
+  match-none i = reported matcher.says o s s₁ w w₁ q a NoMatch h i q 100 refl refl
 
-  pub match-refused : (e : Refusal) (n : ℕ) → a ≡ not-matched e → n ≡ number-of e → Matches o s s₁ w w₁ q q n
-  unfolding matcher.says match-number match-report
-  match-refused e n i j = match-told q n (matcher.number (number-of e)) (match-says (not-matched e) i) j refl
+  pub match-many : a ≡ TooManyNames → Reports o s s₁ w w₁ q q 101
+  unfolding matcher.says number-told report-told
+  match-many i = reported matcher.says o s s₁ w w₁ q a TooManyNames h i q 101 refl refl
 
-  pub match-none : a ≡ NoMatch → Matches o s s₁ w w₁ q q 100
-  unfolding matcher.says match-number match-report
-  match-none i = match-told q 100 matcher.not-matched (match-says NoMatch i) refl refl
-
-  pub match-many : a ≡ TooManyNames → Matches o s s₁ w w₁ q q 101
-  unfolding matcher.says match-number match-report
-  match-many i = match-told q 101 matcher.too-many (match-says TooManyNames i) refl refl
-
-  pub match-done : (p : Parts) → a ≡ Matched p → Matches o s s₁ w w₁ q (p .count ∷ p .name_1 ∷ p .node_1 ∷ p .name_2 ∷ p .node_2 ∷ []) 0
-  unfolding matcher.says match-number match-report
-  match-done p i =
-      match-told (p .count ∷ p .name_1 ∷ p .node_1 ∷ p .name_2 ∷ p .node_2 ∷ []) 0 (matcher.values (p .count ∷ p .name_1 ∷ p .node_1 ∷ p .name_2 ∷ p .node_2 ∷ [])) (match-says (Matched p) i) refl refl
+  pub match-done : (p : Parts) → a ≡ Matched p → Reports o s s₁ w w₁ q (p .count ∷ p .name_1 ∷ p .node_1 ∷ p .name_2 ∷ p .node_2 ∷ []) 0
+  unfolding matcher.says number-told report-told
+  match-done p i = reported matcher.says o s s₁ w w₁ q a (Matched p) h i _ 0 refl refl
 
 -- ---- read
 
-module _ (o : forms.Outcome) (s s₁ q : List ℕ) (a : ReadAnswer) (h : forms.Reads o s s₁ a) where
-  read-says : (b : ReadAnswer) → a ≡ b → forms.read-says b ≡ forms.read-told o
-  read-says b i = sym (ap forms.read-says i) ∙ h .answer
+module _ (o : Outcome) (s s₁ w w₁ q : List ℕ) (a : ReadAnswer) (h : Settles read-says o s s₁ w w₁ a) where
+  pub check-refused : (e : Refusal) (n : ℕ) → a ≡ not-read e → n ≡ number-of e → Reports o s s₁ w w₁ q q n
+  unfolding read-says number-told report-told
+  check-refused e n i j = reported read-says o s s₁ w w₁ q a (not-read e) h i q n j refl
 
-  pub check-refused : (e : Refusal) (n : ℕ) → a ≡ not-read e → n ≡ number-of e → Checks o s s₁ q q n
-  unfolding forms.read-says number-told report-told
-  check-refused e n i j = let k : _ = read-says (not-read e) i in record {
-    returns = j ∙ ap number-told k;
-    reports = ap (λ (t : forms.Told). report-told t q) k;
-    room = h .room;
-  }
-
-  pub check-done : (units : ℕ) → a ≡ Read units → Checks o s s₁ q (units ∷ []) 0
-  unfolding forms.read-says number-told report-told
-  check-done units i = let k : _ = read-says (Read units) i in record {
-    returns = ap number-told k;
-    reports = ap (λ (t : forms.Told). report-told t q) k;
-    room = h .room;
-  }
+  pub check-done : (units : ℕ) → a ≡ Read units → Reports o s s₁ w w₁ q (units ∷ []) 0
+  unfolding read-says number-told report-told
+  check-done units i = reported read-says o s s₁ w w₁ q a (Read units) h i _ 0 refl refl
 
 -- ---- write
 
-module _ (o : forms.Outcome) (s w s₁ w₁ q : List ℕ) (a : WriteAnswer) (h : forms.Writes o s s₁ w w₁ a) where
-  write-says : (b : WriteAnswer) → a ≡ b → forms.write-says b ≡ forms.write-told o
-  write-says b i = sym (ap forms.write-says i) ∙ h .delivers .answer
+module _ (o : Outcome) (s s₁ w w₁ q : List ℕ) (a : WriteAnswer) (h : Settles write-says o s s₁ w w₁ a) where
+  pub write-refused : (e : Refusal) (n : ℕ) → a ≡ not-written e → n ≡ number-of e → Reports o s s₁ w w₁ q q n
+  unfolding write-says number-told report-told
+  write-refused e n i j = reported write-says o s s₁ w w₁ q a (not-written e) h i q n j refl
 
-  pub write-refused : (e : Refusal) (n : ℕ) → a ≡ not-written e → n ≡ number-of e → Writes o s s₁ w w₁ q q n
-  unfolding forms.write-says number-told report-told
-  write-refused e n i j = let k : _ = write-says (not-written e) i in record {
-    returns = j ∙ ap number-told k;
-    reports = ap (λ (t : forms.Told). report-told t q) k;
-    room = h .room;
-    out = h .delivers .out;
-  }
-
-  pub write-done : (count units : ℕ) → a ≡ Written count units → Writes o s s₁ w w₁ q (count ∷ units ∷ []) 0
-  unfolding forms.write-says number-told report-told
-  write-done count units i = let k : _ = write-says (Written count units) i in record {
-    returns = ap number-told k;
-    reports = ap (λ (t : forms.Told). report-told t q) k;
-    room = h .room;
-    out = h .delivers .out;
-  }
+  pub write-done : (count units : ℕ) → a ≡ Written count units → Reports o s s₁ w w₁ q (count ∷ units ∷ []) 0
+  unfolding write-says number-told report-told
+  write-done count units i = reported write-says o s s₁ w w₁ q a (Written count units) h i _ 0 refl refl

@@ -7,10 +7,11 @@ use umlazgrin::ReadAnswer;
 use umlazgrin::WriteAnswer;
 ghost use lib.ListN.{length};
 ghost use Rattle.meaning.specs.Run.{run};
+ghost use mathlib.Core.List.{[]};
 ghost use Rattle.form.specs.Bytes as forms;
 ghost use Rattle.evaluation.specs.Bytes as evaluation;
 ghost use Rattle.matcher.specs.Outcome as matcher;
-ghost use Rattle.library.specs.Reports.{Optimises, Evaluates, Matches, Checks, Writes};
+ghost use Rattle.library.specs.Reports.{Reports};
 
 // What the matcher returns beside the refusals' numbers.
 const NO_MATCH: u8 = 100;
@@ -25,7 +26,7 @@ pub extern "C" fn umlazgrin_optimise(
     out: &mut [u8],
     report: &mut [usize; 4],
 ) -> u8
-    ensures { λ n. ⌜ Optimises (run (now (form .entry)) (length (now (room .entry))) (length (now (out .entry)))) (now (room .entry)) (now (room .exit)) (now (out .entry)) (now (out .exit)) (now (report .entry)) (now (report .exit)) n ⌝ }
+    ensures { λ n. ⌜ Reports (run (now (form .entry)) (length (now (room .entry))) (length (now (out .entry)))) (now (room .entry)) (now (room .exit)) (now (out .entry)) (now (out .exit)) (now (report .entry)) (now (report .exit)) n ⌝ }
 {
     match umlazgrin::optimise(form, room, out) {
         Answer::Refused(e) => refusals::number_of(e),
@@ -45,7 +46,7 @@ pub extern "C" fn umlazgrin_evaluate(
     out: &mut [u8],
     report: &mut [usize; 3],
 ) -> u8
-    ensures { λ n. ⌜ Evaluates (evaluation.outcome (now (forms .entry)) first (length (now (room .entry))) (length (now (out .entry)))) (now (room .entry)) (now (room .exit)) (now (out .entry)) (now (out .exit)) (now (report .entry)) (now (report .exit)) n ⌝ }
+    ensures { λ n. ⌜ Reports (evaluation.outcome (now (forms .entry)) first (length (now (room .entry))) (length (now (out .entry)))) (now (room .entry)) (now (room .exit)) (now (out .entry)) (now (out .exit)) (now (report .entry)) (now (report .exit)) n ⌝ }
 {
     match umlazgrin::evaluate(forms, first, room, out) {
         EvalAnswer::Refused(e) => refusals::number_of(e),
@@ -65,7 +66,7 @@ pub extern "C" fn umlazgrin_match(
     out: &mut [u8],
     report: &mut [usize; 5],
 ) -> u8
-    ensures { λ n. ⌜ Matches (matcher.outcome (now (forms .entry)) first (length (now (room .entry))) (length (now (out .entry)))) (now (room .entry)) (now (room .exit)) (now (out .entry)) (now (out .exit)) (now (report .entry)) (now (report .exit)) n ⌝ }
+    ensures { λ n. ⌜ Reports (matcher.outcome (now (forms .entry)) first (length (now (room .entry))) (length (now (out .entry)))) (now (room .entry)) (now (room .exit)) (now (out .entry)) (now (out .exit)) (now (report .entry)) (now (report .exit)) n ⌝ }
 {
     match umlazgrin::matches(forms, first, room, out) {
         MatchAnswer::Refused(e) => refusals::number_of(e),
@@ -81,7 +82,7 @@ pub extern "C" fn umlazgrin_match(
 // Reads the form and no more. report: units.
 #[no_mangle]
 pub extern "C" fn umlazgrin_check(form: &[u8], room: &mut [u8], report: &mut [usize; 1]) -> u8
-    ensures { λ n. ⌜ Checks (forms.read-outcome (now (form .entry)) (length (now (room .entry)))) (now (room .entry)) (now (room .exit)) (now (report .entry)) (now (report .exit)) n ⌝ }
+    ensures { λ n. ⌜ Reports (forms.read-outcome (now (form .entry)) (length (now (room .entry)))) (now (room .entry)) (now (room .exit)) [] [] (now (report .entry)) (now (report .exit)) n ⌝ }
 {
     match umlazgrin::read(form, room) {
         ReadAnswer::Refused(e) => refusals::number_of(e),
@@ -100,7 +101,7 @@ pub extern "C" fn umlazgrin_write(
     out: &mut [u8],
     report: &mut [usize; 2],
 ) -> u8
-    ensures { λ n. ⌜ Writes (forms.write-outcome (now (form .entry)) (length (now (room .entry))) (length (now (out .entry)))) (now (room .entry)) (now (room .exit)) (now (out .entry)) (now (out .exit)) (now (report .entry)) (now (report .exit)) n ⌝ }
+    ensures { λ n. ⌜ Reports (forms.write-outcome (now (form .entry)) (length (now (room .entry))) (length (now (out .entry)))) (now (room .entry)) (now (room .exit)) (now (out .entry)) (now (out .exit)) (now (report .entry)) (now (report .exit)) n ⌝ }
 {
     match umlazgrin::write(form, room, out) {
         WriteAnswer::Refused(e) => refusals::number_of(e),

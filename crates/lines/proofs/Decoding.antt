@@ -15,7 +15,7 @@ use Rattle.lines.specs.Hex.{digit-of, before, two-before, decode, hex-of
 use Rattle.lines.specs.Line.{Seen, keep, more, judged, Walked, walk}
 use Rattle.lines.proofs.Reading as reading
 
-on-bool {ℓ} : {X : Type ℓ} (b : Bool) → (b ≡ true → X) → (b ≡ false → X) → X
+pub on-bool {ℓ} : {X : Type ℓ} (b : Bool) → (b ≡ true → X) → (b ≡ false → X) → X
 on-bool true f g = f refl
 on-bool false f g = g refl
 

@@ -1,6 +1,5 @@
--- Printing byte by byte: what stands after one more, and what a loop over a word or over bytes keeps.
+-- Printing byte by byte: what stands after one more, and what a loop over a list keeps.
 use mathlib.Core.Path.{_≡_, refl, sym, _∙_, ap}
-use mathlib.Core.Bool.{Bool, true, false}
 use mathlib.Core.List.{List, [], _∷_, _++_, append-nil, append-assoc}
 use Prim.Native.Nat.{ℕ, zero, suc, _+_, _-_, _*_, _/_, _%_, _^_, _≤_, _<_}
 use native.Mathlib.Omega.{arith}
@@ -11,7 +10,7 @@ use lib.Seq.{take-suc, take-suc-set, take-all}
 use borrow.Author.Tests.{lt-ltb, le-ltb}
 use Rattle.io.specs.Digits.{glyph, digits, Fewest}
 use Rattle.lines.specs.Hex.{hex-of}
-use Rattle.lines.specs.Text.{Printed, ok-tree, places, decimal-of, blank-decimal, mark-end, spent-line, no-number}
+use Rattle.lines.specs.Text.{Printed, ok-tree, places, decimal-of, blank-decimal, numbers-text, numbers-line, no-number}
 
 pub nothing : (s : List ℕ) (at : ℕ) → Printed [] s s at at
 nothing s at = record { long = refl; within = λ h. h; stands = λ h. sym (append-nil (take at s)); next = λ h. omega arith }
@@ -45,50 +44,49 @@ put-full s at x h = record {
   next = λ k. absurd (omega arith);
 }
 
--- the loop over a word
-pub record Word (w s t : List ℕ) (at k i : ℕ) : Type 0 where
-  pub bound : i ≤ length w
-  pub printed : Printed (take i w) s t at k
+-- ---- a loop over a list
 
-pub word-starts : (w s : List ℕ) (at : ℕ) → Word w s s at at 0
-word-starts w s at = record { bound = omega arith; printed = nothing s at }
+-- what is printed of a list is printed item by item
+pub record Itemwise (f : List ℕ → List ℕ) : Type 0 where
+  pub none : f [] ≡ []
+  pub joins : (a b : List ℕ) → f (a ++ b) ≡ f a ++ f b
 
-pub word-turn : (w s t u : List ℕ) (at k r i : ℕ) → Printed (getD w i 0 ∷ []) t u k r → Word w s t at k i → i < length w → Word w s u at r (i + 1)
-word-turn w s t u at k r i q v h = record {
-  bound = omega arith;
-  printed = rw (add-one, take-suc w i 0) (joined (take i w) (getD w i 0 ∷ []) s t u at k r q (v .printed));
-}
+-- the first i items are printed
+pub record Through (f : List ℕ → List ℕ) (xs s t : List ℕ) (at k i : ℕ) : Type 0 where
+  pub bound : i ≤ length xs
+  pub printed : Printed (f (take i xs)) s t at k
 
-pub word-ends : (w s t : List ℕ) (at k i : ℕ) → Word w s t at k i → length w ≤ i → Printed w s t at k
-word-ends w s t at k i v h = rw (take-all i w h) at (v .printed)
+module _ (f : List ℕ → List ℕ) (m : Itemwise f) (xs s : List ℕ) (at : ℕ) where
+  pub starts : Through f xs s s at at 0
+  starts = record { bound = omega arith; printed = rw (m .none) (nothing s at) }
 
--- the loop over bytes
-pub hex-join : (a b : List ℕ) → hex-of (a ++ b) ≡ hex-of a ++ hex-of b
+  pub turn : (t u : List ℕ) (k r i : ℕ) → Printed (f (getD xs i 0 ∷ [])) t u k r → Through f xs s t at k i → i < length xs → Through f xs s u at r (i + 1)
+  turn t u k r i q v h = record {
+    bound = omega arith;
+    printed = rw (add-one, take-suc xs i 0, m .joins (take i xs) (getD xs i 0 ∷ []))
+        (joined (f (take i xs)) (f (getD xs i 0 ∷ [])) s t u at k r q (v .printed));
+  }
+
+  pub ends : (t : List ℕ) (k i : ℕ) → Through f xs s t at k i → length xs ≤ i → Printed (f xs) s t at k
+  ends t k i v h = rw (take-all i xs h) at (v .printed)
+
+-- a word's bytes, one by one
+pub word-each : Itemwise (λ (w : List ℕ). w)
+word-each = record { none = refl; joins = λ a b. refl }
+
+-- bytes as two digits each
+hex-join : (a b : List ℕ) → hex-of (a ++ b) ≡ hex-of a ++ hex-of b
 unfolding hex-of
 hex-join [] b = refl
 hex-join (x ∷ a) b = ap (λ (z : List ℕ). glyph (x / 16) ∷ glyph (x % 16) ∷ z) (hex-join a b)
 
-pub record Hex (b s t : List ℕ) (at k i : ℕ) : Type 0 where
-  pub bound : i ≤ length b
-  pub printed : Printed (hex-of (take i b)) s t at k
-
-pub hex-starts : (b s : List ℕ) (at : ℕ) → Hex b s s at at 0
+pub hex-each : Itemwise hex-of
 unfolding hex-of
-hex-starts b s at = record { bound = omega arith; printed = nothing s at }
+hex-each = record { none = refl; joins = hex-join }
 
 pub byte-put : (s t u : List ℕ) (at k r x d e : ℕ) → Printed (e ∷ []) t u k r → Printed (d ∷ []) s t at k → d ≡ glyph (x / 16) → e ≡ glyph (x % 16) → Printed (hex-of (x ∷ [])) s u at r
 unfolding hex-of
 byte-put s t u at k r x d e q p dd ee = rw (sym dd, sym ee) (joined (d ∷ []) (e ∷ []) s t u at k r q p)
-
-pub hex-turn : (b s t u : List ℕ) (at k r i : ℕ) → Printed (hex-of (getD b i 0 ∷ [])) t u k r → Hex b s t at k i → i < length b → Hex b s u at r (i + 1)
-hex-turn b s t u at k r i q v h = record {
-  bound = omega arith;
-  printed = rw (add-one, take-suc b i 0, hex-join (take i b) (getD b i 0 ∷ []))
-      (joined (hex-of (take i b)) (hex-of (getD b i 0 ∷ [])) s t u at k r q (v .printed));
-}
-
-pub hex-ends : (b s t : List ℕ) (at k i : ℕ) → Hex b s t at k i → length b ≤ i → Printed (hex-of b) s t at k
-hex-ends b s t at k i v h = rw (take-all i b h) at (v .printed)
 
 pub ok-ends : (b s t u : List ℕ) (at k r : ℕ) → Printed (hex-of b) t u k r → Printed (111 ∷ 107 ∷ 32 ∷ []) s t at k → Printed (ok-tree b) s u at r
 unfolding ok-tree
@@ -122,20 +120,23 @@ pub number-ends : (n k : ℕ) (w s t : List ℕ) (at r : ℕ) → Printed (take 
 unfolding decimal-of
 number-ends n k w s t at r p e f h = rw (places-fewest 19 n k (omega arith) f, ← e) p
 
-pub blank-ends : (n : ℕ) (s t u : List ℕ) (at k r : ℕ) → Printed (decimal-of n) t u k r → Printed (32 ∷ []) s t at k → Printed (blank-decimal n) s u at r
-unfolding blank-decimal
-blank-ends n s t u at k r q p = joined (32 ∷ []) (decimal-of n) s t u at k r q p
+pub blank-ends : (n : ℕ) (s t u : List ℕ) (at k r : ℕ) → Printed (decimal-of n) t u k r → Printed (32 ∷ []) s t at k → Printed (numbers-text (n ∷ [])) s u at r
+unfolding numbers-text blank-decimal
+blank-ends n s t u at k r q p = rw (append-nil (decimal-of n)) (joined (32 ∷ []) (decimal-of n) s t u at k r q p)
 
-pub no-ends : (n : ℕ) (s t u v : List ℕ) (at k m r : ℕ) → Printed (10 ∷ []) u v m r → Printed (blank-decimal n) t u k m → Printed (110 ∷ 111 ∷ []) s t at k → Printed (no-number n) s v at r
+numbers-join : (a b : List ℕ) → numbers-text (a ++ b) ≡ numbers-text a ++ numbers-text b
+unfolding numbers-text
+numbers-join [] b = refl
+numbers-join (n ∷ a) b = ap (λ (z : List ℕ). blank-decimal n ++ z) (numbers-join a b) ∙ sym (append-assoc (blank-decimal n) (numbers-text a) (numbers-text b))
+
+pub number-each : Itemwise numbers-text
+unfolding numbers-text
+number-each = record { none = refl; joins = numbers-join }
+
+pub numbers-end : (ns s t u : List ℕ) (at k r i : ℕ) → Printed (10 ∷ []) t u k r → Through numbers-text ns s t at k i → length ns ≤ i → Printed (numbers-line ns) s u at r
+unfolding numbers-line
+numbers-end ns s t u at k r i q v h = joined (numbers-text ns) (10 ∷ []) s t u at k r q (ends numbers-text number-each ns s at t k i v h)
+
+pub no-ends : (n : ℕ) (s t u : List ℕ) (at k r : ℕ) → Printed (numbers-line (n ∷ [])) t u k r → Printed (110 ∷ 111 ∷ []) s t at k → Printed (no-number n) s u at r
 unfolding no-number
-no-ends n s t u v at k m r o q p = joined (110 ∷ 111 ∷ []) (blank-decimal n ++ (10 ∷ [])) s t v at k r (joined (blank-decimal n) (10 ∷ []) t u v k m r o q) p
-
--- units and mark
-module _ (u : ℕ) (m : Bool) (s t v : List ℕ) (at a r : ℕ) where
-  pub spent-marked : Printed (32 ∷ 49 ∷ 10 ∷ []) t v a r → Printed (blank-decimal u) s t at a → m ≡ true → Printed (spent-line u m) s v at r
-  unfolding spent-line mark-end
-  spent-marked k h e = rw e (joined (blank-decimal u) (mark-end true) s t v at a r k h)
-
-  pub spent-unmarked : Printed (32 ∷ 48 ∷ 10 ∷ []) t v a r → Printed (blank-decimal u) s t at a → m ≡ false → Printed (spent-line u m) s v at r
-  unfolding spent-line mark-end
-  spent-unmarked k h e = rw e (joined (blank-decimal u) (mark-end false) s t v at a r k h)
+no-ends n s t u at k r q p = joined (110 ∷ 111 ∷ []) (numbers-line (n ∷ [])) s t u at k r q p

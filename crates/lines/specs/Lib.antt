@@ -1,3 +1,3 @@
 pub mod Hex
-pub mod Line
 pub mod Text
+pub mod Line

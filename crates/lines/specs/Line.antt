@@ -6,12 +6,13 @@ use mathlib.Core.List.{List, [], _∷_, _++_}
 use lib.Dec.{eqb, ltb}
 use lib.ListN.{length, take, drop}
 use Rattle.lines.specs.declared.read.Got.{Got}
-use Rattle.lines.specs.declared.read.Got.the-variants.{Form, Bad}
+use Rattle.lines.specs.declared.read.Got.the-variants.{Form, Bad, End}
 use Rattle.lines.specs.declared.read.Line.{Line}
 use Rattle.lines.specs.declared.read.Lines.{Lines}
 use Rattle.lines.specs.declared.read.Part.{Part}
 use Rattle.io.specs.Counts.{Counts}
 use Rattle.lines.specs.Hex.{digit-of}
+use Rattle.lines.specs.Text.{Waits, Adds, no-line}
 
 -- a line so far: the bytes kept, the digit that waits for its second (16: none), whether a byte was met that is no digit
 pub record Seen : Type 0 where
@@ -72,7 +73,20 @@ pub record Passed (bytes : List ℕ) (from : ℕ) (form form′ : List ℕ) (l :
   pub shows : walked form′ p ≡ walk (length form) (shown form l) from (drop from bytes)
   pub within : p .line .n ≤ length form′
 
--- both lines' bytes stand within the forms
-pub record Two (forms : List ℕ) (r : Lines) : Type 0 where
+-- the next line or the next two: the bytes stand within the forms, and what waited still waits or was written
+pub record Came (forms : List ℕ) (s r : Lines) : Type 0 where
   pub fits : Counts (r .n) forms
   pub first : r .first ≤ r .n
+  pub waits : Waits (s .put) (r .put)
+
+-- what is printed for what came: the reply to a form; `no line` for any other line; nothing where the input had ended
+unfoldable pub line-for : Got → List ℕ → List ℕ
+unfolding no-line
+line-for Form reply = reply
+line-for Bad reply = no-line
+line-for End reply = []
+
+-- a turn of a program, whose reply to bytes of which so many are the first line's is `reply`: its line waits, whole, and nothing else new
+pub record Turned (reply : List ℕ → ℕ → List ℕ) (forms text text′ : List ℕ) (s r : Lines) : Type 0 where
+  pub adds : Adds (line-for (r .got) (reply (take (r .n) forms) (r .first))) (take (s .put) text) (take (r .put) text′)
+  pub within : r .put ≤ length text′

@@ -1,12 +1,34 @@
 -- What printing leaves in the text that waits.
 use Prim.Native.Nat.{ℕ, zero, suc, _+_, _/_, _≤_}
 use mathlib.Core.Path.{_≡_}
-use mathlib.Core.Bool.{Bool, true, false}
+use mathlib.Core.Bool.{true, false}
 use mathlib.Core.List.{List, [], _∷_, _++_}
 use lib.Dec.{ltb}
 use lib.ListN.{length, take}
 use Rattle.io.specs.Digits.{digits}
 use Rattle.lines.specs.Hex.{hex-of}
+
+-- as many bytes as an output may have, and as many as a line may have then: two for each, a word, three numbers, the line's end
+abbrev pub out-most : ℕ
+out-most = 32_768
+
+abbrev pub line-most : ℕ
+line-most = 65_664
+
+-- what waited up to `at` still waits; or it was written, and nothing waits
+pub data Waits (at r : ℕ) : Type 0 where
+  still : r ≡ at → Waits at r
+  written : r ≡ 0 → Waits at r
+
+-- there is room for a line
+pub record Cleared (text : List ℕ) (at r : ℕ) : Type 0 where
+  pub waits : Waits at r
+  pub room : r + line-most ≤ length text
+
+-- what waits after is what waited before and then the line; or the line alone, where what waited was written
+pub data Adds (line before after : List ℕ) : Type 0 where
+  behind : after ≡ before ++ line → Adds line before after
+  alone : after ≡ line → Adds line before after
 
 -- `new` was printed after text[..at]: where there was room it stands there, up to r; where there was none the text was written and began anew
 pub record Printed (new text text′ : List ℕ) (at r : ℕ) : Type 0 where
@@ -35,20 +57,21 @@ unfoldable pub blank-decimal : ℕ → List ℕ
 unfolding decimal-of
 blank-decimal n = 32 ∷ decimal-of n
 
--- a blank, the mark as 0 or 1, and the line's end
-unfoldable pub mark-end : Bool → List ℕ
-mark-end true = 32 ∷ 49 ∷ 10 ∷ []
-mark-end false = 32 ∷ 48 ∷ 10 ∷ []
+-- a blank and each number
+unfoldable pub numbers-text : List ℕ → List ℕ
+unfolding blank-decimal
+numbers-text [] = []
+numbers-text (n ∷ ns) = blank-decimal n ++ numbers-text ns
 
--- the end of a line: units and mark
-unfoldable pub spent-line : ℕ → Bool → List ℕ
-unfolding blank-decimal mark-end
-spent-line units mark = blank-decimal units ++ mark-end mark
+-- the end of a line: numbers and the newline
+unfoldable pub numbers-line : List ℕ → List ℕ
+unfolding numbers-text
+numbers-line ns = numbers-text ns ++ (10 ∷ [])
 
 -- `no` and the number
 unfoldable pub no-number : ℕ → List ℕ
-unfolding blank-decimal
-no-number n = 110 ∷ 111 ∷ (blank-decimal n ++ (10 ∷ []))
+unfolding numbers-line
+no-number n = 110 ∷ 111 ∷ numbers-line (n ∷ [])
 
 -- `no line`
 unfoldable pub no-line : List ℕ

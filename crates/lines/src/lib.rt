@@ -1,5 +1,5 @@
 // What a program needs that reads lines of lower-case hex and prints outcomes. It lends every byte: what reads fill, what a line's
-// digits make, and the text that waits to be written. No function asks for anything; no contract can say what is read or written.
+// digits make, and the text that waits to be written. No contract can say what is read or written: so the contracts say what waits.
 mod print;
 mod read;
 
@@ -7,10 +7,10 @@ pub use print::flush;
 pub use print::print_hex;
 pub use print::print_no;
 pub use print::print_no_line;
-pub use print::print_number;
+pub use print::print_numbers;
 pub use print::print_ok;
-pub use print::print_spent;
 pub use print::print_word;
+pub use print::room_for_line;
 pub use read::Got;
 pub use read::Lines;
 pub use read::left;

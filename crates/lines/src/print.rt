@@ -1,17 +1,33 @@
 // Printing. A program lends the bytes where what is printed waits, text; text[..at] waits, and each function answers the next at.
 use libc::STDOUT_FILENO;
 ghost use mathlib.Core.Path.{_≡_};
-ghost use Prim.Native.Nat.{_<_};
+ghost use Prim.Native.Nat.{_<_, _≤_};
 ghost use mathlib.Core.List.{[], _∷_};
+ghost use lib.ListN.{length};
 ghost use Rattle.io.specs.Digits.{glyph};
 ghost use Rattle.lines.specs.Hex.{hex-of};
-ghost use Rattle.lines.specs.Text.{Printed, ok-tree, decimal-of, blank-decimal, spent-line, no-number, no-line};
+ghost use Rattle.lines.specs.Text.{line-most, Printed, Cleared, ok-tree, decimal-of, numbers-text, numbers-line, no-number, no-line};
+
+// As many bytes as a line may have: the hex of 32,768 bytes, a word, three numbers, and the line's end.
+const LINE_MOST: usize = 65664;
 
 // Writes what waits.
 pub fn flush(text: &[u8], at: usize) {
     if at <= text.len() {
         io::write_all(STDOUT_FILENO, &text[..at]);
     }
+}
+
+// Where a line may be printed: what waits is written first if it leaves no room for the longest, so that no line is ever cut.
+pub fn room_for_line(text: &[u8], at: usize) -> usize
+    requires { ⌜ line-most ≤ length (now text) ⌝ }
+    ensures { λ r. ⌜ Cleared (now (text .entry)) at r ⌝ }
+{
+    if text.len() - LINE_MOST < at {
+        flush(text, at);
+        return 0;
+    }
+    at
 }
 
 // One byte more. Where the text is full it is written first.
@@ -86,22 +102,24 @@ fn put_decimal(text: &mut [u8], at: usize, n: u64) -> usize
 }
 
 // A blank and a number.
-pub fn print_number(text: &mut [u8], at: usize, n: u64) -> usize
-    ensures { λ r. ⌜ Printed (blank-decimal n) (now (text .entry)) (now (text .exit)) at r ⌝ }
+fn print_number(text: &mut [u8], at: usize, n: usize) -> usize
+    ensures { λ r. ⌜ Printed (numbers-text (n ∷ [])) (now (text .entry)) (now (text .exit)) at r ⌝ }
 {
     let k = put(text, at, b' ');
-    put_decimal(text, k, n)
+    put_decimal(text, k, n as u64)
 }
 
-// The end of an outcome's line: units and mark.
-pub fn print_spent(text: &mut [u8], at: usize, units: u64, mark: bool) -> usize
-    ensures { λ r. ⌜ Printed (spent-line units mark) (now (text .entry)) (now (text .exit)) at r ⌝ }
+// The end of a line: each number, and the newline.
+pub fn print_numbers(text: &mut [u8], at: usize, numbers: &[usize]) -> usize
+    ensures { λ r. ⌜ Printed (numbers-line (now (numbers .entry))) (now (text .entry)) (now (text .exit)) at r ⌝ }
 {
-    let k = print_number(text, at, units);
-    if mark {
-        return print_word(text, k, b" 1\n");
+    let mut k = at;
+    let mut i = 0;
+    while i < numbers.len() {
+        k = print_number(text, k, numbers[i]);
+        i += 1;
     }
-    print_word(text, k, b" 0\n")
+    put(text, k, b'\n')
 }
 
 // The outcome of a form that was refused: `no`, and the refusal's number.
@@ -109,8 +127,7 @@ pub fn print_no(text: &mut [u8], at: usize, number: u8) -> usize
     ensures { λ r. ⌜ Printed (no-number number) (now (text .entry)) (now (text .exit)) at r ⌝ }
 {
     let a = print_word(text, at, b"no");
-    let b = print_number(text, a, number as u64);
-    put(text, b, b'\n')
+    print_numbers(text, a, &[number as usize])
 }
 
 // The outcome of a line that is not an even count of lower-case hex digits.

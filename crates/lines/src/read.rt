@@ -7,7 +7,7 @@ ghost use Prim.Native.Nat.{_+_, _-_, _^_, _≤_, _<_};
 ghost use lib.ListN.{length};
 ghost use Rattle.io.specs.Counts.{Counts};
 ghost use Rattle.lines.specs.Hex.{digit-of};
-ghost use Rattle.lines.specs.Line.{judged, Took, Passed, Two};
+ghost use Rattle.lines.specs.Line.{judged, Took, Passed, Came};
 
 pub enum Got {
     // An even count of lower-case hex digits, none for an empty line.
@@ -143,8 +143,10 @@ fn refill(buf: &mut [u8], text: &[u8], put: usize) -> usize
     io::count(came, buf)
 }
 
-// Where a program starts.
-pub fn start() -> Lines {
+// Where a program starts: nothing waits.
+pub fn start() -> Lines
+    ensures { λ r. ⌜ r .put ≡ 0 ⌝ }
+{
     Lines {
         at: 0,
         len: 0,
@@ -176,7 +178,7 @@ fn fewer(turns: u64) -> u64
 
 // Where the input ends: a last line needs no newline.
 fn last(l: Line, begun: bool) -> Lines
-    ensures { λ r. ⌜ r .n ≡ l .n ⌝ }
+    ensures { λ r. ⌜ (r .n ≡ l .n) × ((r .first ≡ 0) × (r .put ≡ 0)) ⌝ }
 {
     Lines {
         at: 0,
@@ -190,7 +192,7 @@ fn last(l: Line, begun: bool) -> Lines
 
 // The next line: form[..n] has its bytes, or the first of them where form is too short for all.
 pub fn next_line(buf: &mut [u8], form: &mut [u8], text: &[u8], s: Lines) -> Lines
-    ensures { λ r. ⌜ Counts (r .n) (now (form .exit)) ⌝ }
+    ensures { λ r. ⌜ Came (now (form .exit)) s r ⌝ }
 {
     let mut line = Line {
         n: 0,
@@ -238,7 +240,7 @@ pub fn next_line(buf: &mut [u8], form: &mut [u8], text: &[u8], s: Lines) -> Line
 // What two lines are together: both read, and the second's bytes behind the first's.
 fn both(a: Lines, b: Lines) -> Lines
     requires { ⌜ a .n + b .n < 2 ^ 64 ⌝ }
-    ensures { λ r. ⌜ (r .n ≡ a .n + b .n) × (r .first ≡ a .n) ⌝ }
+    ensures { λ r. ⌜ (r .n ≡ a .n + b .n) × ((r .first ≡ a .n) × (r .put ≡ b .put)) ⌝ }
 {
     let g = a.got;
     let h = b.got;
@@ -263,7 +265,7 @@ fn both(a: Lines, b: Lines) -> Lines
 // The next two lines: forms[..first] has the first one's bytes, and forms[first..n] the second's. A second line that is missing is no
 // line.
 pub fn next_two(buf: &mut [u8], forms: &mut [u8], text: &[u8], s: Lines) -> Lines
-    ensures { λ r. ⌜ Two (now (forms .exit)) r ⌝ }
+    ensures { λ r. ⌜ Came (now (forms .exit)) s r ⌝ }
 {
     let a = next_line(buf, forms, text, s);
     let n = a.n;

@@ -1,38 +1,24 @@
--- Matching on bytes alone: from the two forms' bytes, and the lengths of the lent room and output, to the answer and every lent byte.
+-- Matching on bytes alone: from the two forms' bytes, and the lengths of the lent room and output, to the outcome.
 use Prim.Native.Nat.{ℕ, _≤_}
-use mathlib.Core.Path.{_≡_}
 use mathlib.Core.List.{List, [], _∷_, _++_}
-use mathlib.Core.Bool.{true, false}
-use lib.Dec.{eqb, leb}
 use lib.ListN.{length, take, drop}
-use Rattle.refusals.specs.declared.Refusal.{Refusal}
-use Rattle.refusals.specs.declared.Refusal.the-variants.{RoomSmall, OutputShort}
 use Rattle.refusals.specs.Numbers.{number-of}
 use Rattle.meaning.specs.Tree.{atom}
-use Rattle.meaning.specs.Limits.{room-least}
 use Rattle.meaning.specs.Meter.{Out, done, stop}
-use Rattle.meaning.specs.Form.{Reading, read-form, write}
+use Rattle.meaning.specs.Form.{Reading, write}
 use Rattle.meaning.specs.Match as meaning
-use Rattle.meaning.specs.Run.{zeroed}
+use Rattle.meaning.specs.Outcome.{Outcome, plain, no-match, too-many-names, answered, deliver, ended, in-room, Told, values, number}
+use Rattle.form.specs.Both.{read-both}
 use Rattle.matcher.specs.declared.Parts.{Parts}
 use Rattle.matcher.specs.declared.MatchAnswer.{MatchAnswer}
 use Rattle.matcher.specs.declared.MatchAnswer.the-variants.{Matched, NoMatch, TooManyNames, Refused}
 
--- what the names are bound to, in the order in which they were bound; or why nothing is
-pub data Outcome : Type 0 where
-  bound : List meaning.Binding → Outcome
-  no-match too-many-names : Outcome
-  refused : Refusal → Outcome
-
--- the pattern's form is read, then the expression's from the same units; then they are matched
+-- both forms are read, on one budget; and then they are matched
 unfoldable pub worked : List ℕ → List ℕ → Out Reading meaning.Match
-unfolding read-form meaning.match-sexp
-worked pattern expression = elim (read-form pattern 0) [
-  | done p s ↦ elim (read-form expression (s .units)) [
-    | done e t ↦ done (meaning.match-sexp p e []) t
-    | stop n t ↦ stop n t
-  ]
-  | stop n s ↦ stop n s
+unfolding read-both meaning.match-sexp
+worked pattern expression = elim (read-both pattern expression) [
+  | done b r ↦ done (meaning.match-sexp (b .one) (b .other) []) r
+  | stop n r ↦ stop n r
 ]
 
 -- for each binding two parts: the name's atom and the tree, written
@@ -46,79 +32,29 @@ unfoldable pub joined : List (List ℕ) → List ℕ
 joined [] = []
 joined (p ∷ ps) = p ++ joined ps
 
--- "14 last"
-unfoldable pub delivered : ℕ → meaning.Match → Outcome
-unfolding parts joined
-delivered out-length (meaning.matched ks) = elim (leb (length (joined (parts ks))) out-length) [ true ↦ bound ks | false ↦ refused OutputShort ]
-delivered out-length meaning.no-match = no-match
-delivered out-length meaning.too-many-names = too-many-names
-
-unfoldable pub ended : ℕ → Out Reading meaning.Match → Outcome
-unfolding delivered
-ended out-length (done m s) = delivered out-length m
-ended out-length (stop n s) = refused n
-
--- the two forms, how long the first is, how many bytes of room are lent, how many of output
-unfoldable pub outcome : List ℕ → ℕ → ℕ → ℕ → Outcome
-unfolding ended worked
-outcome forms first room-length out-length = elim (leb room-least room-length) [
-  | true ↦ ended out-length (worked (take first forms) (drop first forms))
-  | false ↦ refused RoomSmall
-]
-
--- ---- every lent byte
-
--- the parts over the output's beginning; whatever is no match leaves the output as it came in
-unfoldable pub out-after : Outcome → List ℕ → List ℕ
-unfolding parts joined
-out-after (bound ks) out = joined (parts ks) ++ drop (length (joined (parts ks))) out
-out-after no-match out = out
-out-after too-many-names out = out
-out-after (refused n) out = out
-
--- "Lent working room is all zero after any return but refusal 1, which leaves it unchanged"
-unfoldable pub room-after : Outcome → List ℕ → List ℕ
-unfolding zeroed
-room-after (bound ks) room = zeroed room
-room-after no-match room = zeroed room
-room-after too-many-names room = zeroed room
-room-after (refused n) room = elim (eqb (number-of n) 1) [ true ↦ room | false ↦ zeroed room ]
-
--- ---- the answers
-
--- how many names and where each of the four parts ends; or that there is no match; or a refusal's number
-pub data Told : Type 0 where
-  values : List ℕ → Told
-  not-matched too-many : Told
-  number : ℕ → Told
-
-unfoldable pub says : MatchAnswer → Told
-says (Matched e) = values (e .count ∷ e .name_1 ∷ e .node_1 ∷ e .name_2 ∷ e .node_2 ∷ [])
-says NoMatch = not-matched
-says TooManyNames = too-many
-says (Refused n) = number (number-of n)
-
 -- where the first k parts end: a part that is not there has no bytes
 unfoldable pub end : ℕ → List meaning.Binding → ℕ
 unfolding parts joined
 end k ks = length (joined (take k (parts ks)))
 
-unfoldable pub told : Outcome → Told
-unfolding end
-told (bound ks) = values (length ks ∷ end 1 ks ∷ end 2 ks ∷ end 3 ks ∷ end 4 ks ∷ [])
-told no-match = not-matched
-told too-many-names = too-many
-told (refused n) = number (number-of n)
+-- a match's parts: how many names, and where each of the four parts ends; a match that fails writes nothing
+unfoldable pub delivered : ℕ → meaning.Match → Outcome
+unfolding parts joined end deliver
+delivered out-length (meaning.matched ks) = deliver out-length (joined (parts ks)) (length ks ∷ end 1 ks ∷ end 2 ks ∷ end 3 ks ∷ end 4 ks ∷ [])
+delivered out-length meaning.no-match = answered [] no-match []
+delivered out-length meaning.too-many-names = answered [] too-many-names []
 
--- ---- the promise: an outcome o; the room s and the output w before, s′ and w′ after; the answer a
+-- the two forms, how long the first is, how many bytes of room are lent, how many of output
+unfoldable pub outcome : List ℕ → ℕ → ℕ → ℕ → Outcome
+unfolding worked delivered ended in-room
+outcome forms first room-length out-length = in-room room-length (ended (λ m s. delivered out-length m) (worked (take first forms) (drop first forms)))
 
-pub record Delivers (o : Outcome) (w w′ : List ℕ) (a : MatchAnswer) : Type 0 where
-  pub answer : says a ≡ told o
-  pub out : w′ ≡ out-after o w
-
-pub record Matches (o : Outcome) (s s′ w w′ : List ℕ) (a : MatchAnswer) : Type 0 where
-  pub delivers : Delivers o w w′ a
-  pub room : s′ ≡ room-after o s
+-- what `matches` says: how many names and where each of the four parts ends; or that there is no match
+unfoldable pub says : MatchAnswer → Told
+says (Matched e) = values plain (e .count ∷ e .name_1 ∷ e .node_1 ∷ e .name_2 ∷ e .node_2 ∷ [])
+says NoMatch = values no-match []
+says TooManyNames = values too-many-names []
+says (Refused n) = number (number-of n)
 
 -- what follows for the ends: they stand in order, within n bytes
 pub record Within (e : Parts) (n : ℕ) : Type 0 where

@@ -1,10 +1,10 @@
--- What the steps promise: the split of the two forms, their match in the store, and where the parts end.
-use Prim.Native.Nat.{ℕ, _+_, _≤_}
+-- What the steps promise: the two forms' match in the store, and where the parts end.
+use Prim.Native.Nat.{ℕ, _+_}
 use mathlib.Core.Path.{_≡_}
 use mathlib.Core.List.{List}
 use mathlib.Core.Bool.{true, false}
 use lib.Dec.{leb}
-use lib.ListN.{length, take, drop}
+use lib.ListN.{length}
 use Rattle.meaning.specs.Meter.{Out, done}
 use Rattle.meaning.specs.Form.{Reading}
 use Rattle.meaning.specs.Match as meaning
@@ -19,12 +19,6 @@ use Rattle.matcher.specs.declared.Ends.the-variants.{At, Over as ends-ov
 use Rattle.matcher.specs.declared.Placed.{Placed}
 use Rattle.matcher.specs.declared.Placed.the-variants.{All, Over}
 use Rattle.matcher.specs.Outcome.{parts, joined, end}
-
--- r is first, or where the forms end if they are shorter
-pub record Splits (f : List ℕ) (first r : ℕ) : Type 0 where
-  pub within : r ≤ length f
-  pub before : take r f ≡ take first f
-  pub after : drop r f ≡ drop first f
 
 -- the work o gives m (data, not a record: `search` builds records, and has no way to choose the state)
 pub data Gives (o : Out Reading meaning.Match) (m : meaning.Match) : Type 0 where

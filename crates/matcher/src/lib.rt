@@ -1,22 +1,24 @@
 // The matcher on bytes alone: the pattern's form and the expression's stand one after the other in one lent slice.
 use form::Extent;
+use form::Two;
 use pattern::Bindings;
 use pattern::Match;
 use refusals::Refusal;
 use store::Charges;
-use store::Made;
+use store::ROOM;
 ghost use mathlib.Core.Path.{_≡_};
 ghost use mathlib.Core.List.{_++_};
 ghost use Prim.Native.Nat.{_+_, _≤_};
 ghost use lib.ListN.{length, take, drop};
 ghost use Rattle.meaning.specs.Limits.{room-least};
 ghost use Rattle.meaning.specs.Form.{write};
+ghost use Rattle.meaning.specs.Outcome.{Delivers, Settles};
 ghost use Rattle.meaning.specs.Match as meaning;
-ghost use Rattle.store.specs.Nodes.{treeAt};
+ghost use Rattle.store.specs.Nodes.{treeAt, tree-in};
 ghost use Rattle.form.specs.Writes.{Writable, Wrote, extent};
 ghost use Rattle.pattern.specs.Bound.{bindingsAt, Bound, matchAt, BoundIn};
-ghost use Rattle.matcher.specs.Outcome.{worked, parts, joined, delivered, outcome, Delivers, Matches};
-ghost use Rattle.matcher.specs.Steps.{Splits, WorkOk, ends, placed};
+ghost use Rattle.matcher.specs.Outcome.{worked, parts, joined, delivered, outcome, says};
+ghost use Rattle.matcher.specs.Steps.{WorkOk, ends, placed};
 
 // How many names were bound, and where each part that was written ends; a part that is not there has no bytes.
 pub struct Parts {
@@ -52,36 +54,19 @@ pub(crate) enum Placed {
     Over,
 }
 
-const ROOM: usize = 65536;
-
 // ---- the two forms
 
-// Where the pattern's form ends.
-fn split(forms: &[u8], first: usize) -> usize
-    ensures { λ r. ⌜ Splits (now (forms .entry)) first r ⌝ }
+// Reads the pattern, the first bytes, and then the expression, what follows them; and matches.
+fn work(forms: &[u8], room: &mut [u8], first: usize) -> Worked
+    requires { ⌜ room-least ≤ length (now room) ⌝ }
+    ensures { λ w. ⌜ WorkOk (now (forms .entry)) (now (room .exit)) (worked (take first (now (forms .entry))) (drop first (now (forms .entry)))) w ⌝ }
 {
-    if first < forms.len() {
-        first
-    } else {
-        forms.len()
-    }
-}
-
-// Reads the pattern, forms[..from], and then the expression, the rest; and matches.
-fn work(forms: &[u8], room: &mut [u8], from: usize) -> Worked
-    requires { ⌜ (room-least ≤ length (now room)) × (from ≤ length (now forms)) ⌝ }
-    ensures { λ w. ⌜ WorkOk (now (forms .entry)) (now (room .exit)) (worked (take from (now (forms .entry))) (drop from (now (forms .entry)))) w ⌝ }
-{
-    let ch = store::start(forms, room);
-    match form::read_form(forms, room, 0, from, ch) {
-        Made::Refused(e) => Worked::Stop(e),
-        Made::Node(p, c) => match form::read_form(forms, room, from, forms.len(), c) {
-            Made::Refused(e) => Worked::Stop(e),
-            Made::Node(s, d) => {
-                let m = pattern::matched_node(forms, room, d, p, s);
-                Worked::Went(m, d)
-            }
-        },
+    match form::read_two(forms, room, first) {
+        Two::Refused(e) => Worked::Stop(e),
+        Two::Nodes(p, s, c) => {
+            let m = pattern::matched_node(forms, room, c, p, s);
+            Worked::Went(m, c)
+        }
     }
 }
 
@@ -90,7 +75,7 @@ fn work(forms: &[u8], room: &mut [u8], from: usize) -> Worked
 // Where the node's tree ends that is written from at on.
 fn end_node<'a>(forms: &'a [u8], room: &'a [u8], n: usize, at: usize, limit: usize) -> Extent
     requires { ⌜ Writable (now forms) (now room) n × (at ≤ limit) ⌝ }
-    ensures { λ r. ⌜ r ≡ extent limit (at + length (write (treeAt (now (forms .entry)) (now (room .entry)) n))) ⌝ }
+    ensures { λ r. ⌜ r ≡ extent limit (at + length (write (tree-in forms room n))) ⌝ }
 {
     match form::length_node(forms, room, n, limit - at) {
         Extent::Long(k) => Extent::Long(at + k),
@@ -107,7 +92,7 @@ fn end_both<'a>(
     limit: usize,
 ) -> Ends
     requires { ⌜ Writable (now forms) (now room) name × Writable (now forms) (now room) node × (at ≤ limit) ⌝ }
-    ensures { λ r. ⌜ r ≡ ends limit at (length (write (treeAt (now (forms .entry)) (now (room .entry)) name))) (length (write (treeAt (now (forms .entry)) (now (room .entry)) node))) ⌝ }
+    ensures { λ r. ⌜ r ≡ ends limit at (length (write (tree-in forms room name))) (length (write (tree-in forms room node))) ⌝ }
 {
     match end_node(forms, room, name, at, limit) {
         Extent::Over => Ends::Over,
@@ -166,7 +151,7 @@ fn write_both<'a>(
     out: &mut [u8],
 ) -> usize
     requires { ⌜ Writable (now forms) (now room) name × Writable (now forms) (now room) node × (length (write (treeAt (now forms) (now room) name)) + length (write (treeAt (now forms) (now room) node)) ≤ length (now out)) ⌝ }
-    ensures { λ r. ⌜ Wrote (write (treeAt (now (forms .entry)) (now (room .entry)) name) ++ write (treeAt (now (forms .entry)) (now (room .entry)) node)) r (now (out .entry)) (now (out .exit)) ⌝ }
+    ensures { λ r. ⌜ Wrote (write (tree-in forms room name) ++ write (tree-in forms room node)) r (now (out .entry)) (now (out .exit)) ⌝ }
 {
     let at = form::write_node(forms, room, name, out);
     let k = form::write_node(forms, room, node, &mut out[at..]);
@@ -204,7 +189,7 @@ fn deliver<'a>(
     out: &mut [u8],
 ) -> MatchAnswer
     requires { ⌜ Bound (now forms) (now room) ch ks ⌝ }
-    ensures { λ r. ⌜ Delivers (delivered (length (now (out .entry))) (meaning.matched (bindingsAt (now (forms .entry)) (now (room .entry)) ks))) (now (out .entry)) (now (out .exit)) r ⌝ }
+    ensures { λ r. ⌜ Delivers says (delivered (length (now (out .entry))) (meaning.matched (bindingsAt (now (forms .entry)) (now (room .entry)) ks))) (now (out .entry)) (now (out .exit)) r ⌝ }
 {
     match place(forms, room, ch, ks, out.len()) {
         Placed::Over => MatchAnswer::Refused(Refusal::OutputShort),
@@ -219,7 +204,7 @@ fn deliver<'a>(
 
 fn answer<'a>(forms: &'a [u8], room: &'a [u8], ch: Charges, m: Match, out: &mut [u8]) -> MatchAnswer
     requires { ⌜ BoundIn (now forms) (now room) ch m ⌝ }
-    ensures { λ r. ⌜ Delivers (delivered (length (now (out .entry))) (matchAt (now (forms .entry)) (now (room .entry)) m)) (now (out .entry)) (now (out .exit)) r ⌝ }
+    ensures { λ r. ⌜ Delivers says (delivered (length (now (out .entry))) (matchAt (now (forms .entry)) (now (room .entry)) m)) (now (out .entry)) (now (out .exit)) r ⌝ }
 {
     match m {
         Match::Matched(ks) => deliver(forms, room, ch, ks, out),
@@ -231,12 +216,12 @@ fn answer<'a>(forms: &'a [u8], room: &'a [u8], ch: Charges, m: Match, out: &mut 
 // Matches the expression against the pattern, forms[..first]. A match writes, for each name in the order in which the names were
 // bound, the name's atom and the tree. The room is all zero after, but for refusal 1.
 pub fn matches(forms: &[u8], first: usize, room: &mut [u8], out: &mut [u8]) -> MatchAnswer
-    ensures { λ r. ⌜ Matches (outcome (now (forms .entry)) first (length (now (room .entry))) (length (now (out .entry)))) (now (room .entry)) (now (room .exit)) (now (out .entry)) (now (out .exit)) r ⌝ }
+    ensures { λ r. ⌜ Settles says (outcome (now (forms .entry)) first (length (now (room .entry))) (length (now (out .entry)))) (now (room .entry)) (now (room .exit)) (now (out .entry)) (now (out .exit)) r ⌝ }
 {
     if room.len() < ROOM {
         return MatchAnswer::Refused(Refusal::RoomSmall);
     }
-    match work(forms, room, split(forms, first)) {
+    match work(forms, room, first) {
         Worked::Stop(e) => {
             store::zero_room(room);
             MatchAnswer::Refused(e)

@@ -1,5 +1,5 @@
--- What holds of every atom of a tree, and what reading a tree costs. Assumes nothing.
-use Prim.Native.Nat.{ℕ, _+_, _^_, _≤_, _<_}
+-- What holds of every atom of a tree, and what bounds allow. Assumes nothing.
+use Prim.Native.Nat.{ℕ, _≤_}
 use mathlib.Core.Path.{_≡_, refl}
 use mathlib.Core.List.{List, [], _∷_}
 use mathlib.Core.Bool.{true}
@@ -7,24 +7,14 @@ use lib.Dec.{leb}
 use lib.ListN.{length}
 use native.Mathlib.Omega.{arith}
 use Rattle.meaning.specs.Tree.{Tree, atom, pair, nil, byte}
-use Rattle.meaning.specs.Limits.{atom-limit, pair-cost, atom-cost}
-use Rattle.meaning.specs.Form.{Bounds, limits, needs-prefix}
+use Rattle.meaning.specs.Limits.{atom-limit}
+use Rattle.meaning.specs.Form.{Bounds, limits, needs-prefix, EveryAtom, Narrow, Writable}
 use Rattle.meaning.proofs.Tests.{leb-yes, leb-true}
-
--- P holds of the bytes of every atom
-unfoldable pub EveryAtom : (List ℕ → Type 0) → Tree → Type 0
-EveryAtom P (atom b) = P b
-EveryAtom P (pair l r) = EveryAtom P l × EveryAtom P r
 
 pub atoms-map : {P Q : List ℕ → Type 0} → ((b : List ℕ) → P b → Q b) → (t : Tree) → EveryAtom P t → EveryAtom Q t
 unfolding EveryAtom
 atoms-map f (atom b) h = f b h
 atoms-map f (pair l r) h = (atoms-map f l (h .0), atoms-map f r (h .1))
-
--- every atom has at most 64 bytes
-unfoldable pub Narrow : Tree → Type 0
-unfolding EveryAtom
-Narrow t = EveryAtom (λ b. length b ≤ atom-limit) t
 
 pub narrow-nil : Narrow nil
 unfolding Narrow
@@ -34,20 +24,9 @@ pub narrow-byte : (b : ℕ) → Narrow (byte b)
 unfolding Narrow
 narrow-byte b = omega arith
 
--- every atom has fewer than 2 ^ 34 bytes: the longest prefix can say its length
-unfoldable pub Writable : Tree → Type 0
-unfolding EveryAtom
-Writable t = EveryAtom (λ b. length b < 2 ^ 34) t
-
 pub narrow-writable : (t : Tree) → Narrow t → Writable t
 unfolding Narrow Writable
 narrow-writable t h = atoms-map (λ b k. omega arith) t h
-
--- the units that a reading charges for a tree
-unfoldable pub tree-cost : Tree → ℕ
-unfolding atom-cost
-tree-cost (atom b) = atom-cost b
-tree-cost (pair l r) = tree-cost l + tree-cost r + pair-cost
 
 -- the bounds allow an atom of these bytes, if it needs a prefix (for any other the reader asks nothing)
 unfoldable pub Fits : Bounds → List ℕ → Type 0

@@ -17,7 +17,7 @@ abbrev pub to-be-steady : Kept
 to-be-steady = record {
   rel = λ m n. Steady of-run m;
   by-give = λ a. steady-give of-run a;
-  by-refuse = λ n. steady-refuse of-run n;
+  by-refuse = λ n h. steady-refuse of-run n;
   by-bind = λ mn fg. steady-bind of-run mn fg;
   by-charge = steady-units;
   by-pass = steady-pass;

@@ -1,7 +1,7 @@
 -- The three demands, in words and as theorems about the definitions. Assumes nothing.
 --
 -- What a run is: `run form room-length out-length` (specs/Run.antt), the form's bytes and how much room and output are lent, to
--- `answered bytes passes units mark` or `refused n`; `out-after` and `room-after` say what every lent byte holds then.
+-- `finished bytes passes units mark` or `refused n`; `out-after` and `room-after` (specs/Outcome.antt) say what every lent byte holds then.
 use Prim.Native.Nat.{ℕ, _≤_}
 use mathlib.Core.Path.{_≡_, refl}
 use mathlib.Core.List.{List, []}
@@ -14,17 +14,16 @@ use Rattle.refusals.specs.Numbers.{number-of}
 use Rattle.meaning.specs.Tree.{Tree}
 use Rattle.meaning.specs.Limits.{form-limit, unit-limit}
 use Rattle.meaning.specs.Meter.{done, Spent, Steps}
-use Rattle.meaning.specs.Form.{Reading, read-form, write, ReadsAs}
+use Rattle.meaning.specs.Form.{Reading, read-form, write, ReadsAs, Narrow, tree-cost, IsBytes}
 use Rattle.meaning.specs.Evaluate.{Gives, evaluate}
 use Rattle.meaning.specs.Driver.{optimize-sexp}
-use Rattle.meaning.specs.Run.{answered, refused, run, out-after}
-use Rattle.meaning.proofs.Atoms.{Narrow, tree-cost}
-use Rattle.meaning.proofs.ReaderLaws.{IsBytes}
+use Rattle.meaning.specs.Outcome.{refused, out-after}
+use Rattle.meaning.specs.Run.{finished, run}
 use Rattle.meaning.proofs.ReadWrite.{form-read}
 use Rattle.meaning.proofs.WriteRead.{form-write}
 use Rattle.meaning.proofs.RunLaws.{answer-fits}
 use Rattle.meaning.proofs.BoundedEval.{evaluated}
-use Rattle.meaning.proofs.Finished.{finished}
+use Rattle.meaning.proofs.Finished.{finished as keeps-values}
 use Rattle.meaning.proofs.FinishedBytes.{finished-bytes}
 
 -- ---- Demand 1. "Every byte string is answered or refused with the number that document 01 gives; every run ends; a refusal writes nothing."
@@ -53,7 +52,7 @@ demand-1-silent n out = refl
 
 -- an answer fits into the output
 pub demand-1-fits : (form : List ℕ) (room-length out-length : ℕ) (bytes : List ℕ) (passes units : ℕ) (mark : Bool)
-    → run form room-length out-length ≡ answered bytes passes units mark → length bytes ≤ out-length
+    → run form room-length out-length ≡ finished bytes passes units mark → length bytes ≤ out-length
 demand-1-fits = answer-fits
 
 -- ---- Demand 2. "Writing a form just read gives back its bytes." (That code equals these definitions is each function's contract; that the
@@ -76,10 +75,10 @@ demand-2-value = evaluated
 -- on trees, at any nesting
 pub demand-3 : (d : ℕ) (t u : Tree) (s s′ : Spent) → optimize-sexp d t s ≡ done u s′ → s′ .mark ≡ false
     → (env v : Tree) → Gives t env v → Gives u env v
-demand-3 = finished
+demand-3 = keeps-values
 
 -- on bytes: the form reads as t, the answer's bytes read, without limits, as u
 pub demand-3-bytes : (form : List ℕ) (room-length out-length : ℕ) (bytes : List ℕ) (passes units : ℕ) (t u env v : Tree)
-    → run form room-length out-length ≡ answered bytes passes units false
+    → run form room-length out-length ≡ finished bytes passes units false
     → (r : Reading) → read-form form 0 ≡ done t r → ReadsAs bytes u → Gives t env v → Gives u env v
-demand-3-bytes = finished-bytes finished
+demand-3-bytes = finished-bytes keeps-values

@@ -26,7 +26,7 @@ abbrev pub to-be-also : Kept
 to-be-also = record {
   rel = λ m n. Also m n;
   by-give = λ a. also-same _;
-  by-refuse = λ n. also-same _;
+  by-refuse = λ n h. also-same _;
   by-bind = λ mn fg. also-bind mn fg;
   by-charge = λ c. also-same _;
   by-pass = also-same _;

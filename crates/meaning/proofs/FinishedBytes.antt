@@ -9,7 +9,7 @@ use Rattle.meaning.specs.Meter.{done, Spent}
 use Rattle.meaning.specs.Form.{Reading, read-form, ReadsAs}
 use Rattle.meaning.specs.Evaluate.{Gives}
 use Rattle.meaning.specs.Driver.{optimize-sexp}
-use Rattle.meaning.specs.Run.{answered, after-reading, run}
+use Rattle.meaning.specs.Run.{finished, after-reading, run}
 use Rattle.meaning.proofs.WriteRead.{one-tree}
 use Rattle.meaning.proofs.NarrowDriver.{worked-reads-back}
 use Rattle.meaning.proofs.RunLaws.{Answer, run-inv, worked-read, worked-inv}
@@ -23,7 +23,7 @@ answer-reads : {form bytes : List ℕ} {out-length passes units : ℕ} {mark : B
 answer-reads {form} a = subst (λ bs. ReadsAs bs (a .tree)) (sym (a .written)) (worked-reads-back form (a .tree) (a .spent) (a .finished))
 
 -- Where a run answers, its form and its answer's bytes read as trees (so that the next law always speaks of some).
-pub trees-of-answer : (form : List ℕ) (room-length out-length : ℕ) (bytes : List ℕ) (passes units : ℕ) (mark : Bool) → run form room-length out-length ≡ answered bytes passes units mark
+pub trees-of-answer : (form : List ℕ) (room-length out-length : ℕ) (bytes : List ℕ) (passes units : ℕ) (mark : Bool) → run form room-length out-length ≡ finished bytes passes units mark
     → (t : Tree) × (r : Reading) × (u : Tree) × (read-form form 0 ≡ done t r) × ReadsAs bytes u
 trees-of-answer form room-length out-length bytes passes units mark h =
     let a = run-inv form room-length out-length bytes passes units mark h in
@@ -32,10 +32,10 @@ trees-of-answer form room-length out-length bytes passes units mark h =
 
 -- Where a run answers with mark 0, and the form reads as t and the answer's bytes as u: every value that t has in an environment, u has too.
 pub finished-bytes : KeepsValues → (form : List ℕ) (room-length out-length : ℕ) (bytes : List ℕ) (passes units : ℕ) (t u env v : Tree)
-    → run form room-length out-length ≡ answered bytes passes units false → (r : Reading) → read-form form 0 ≡ done t r → ReadsAs bytes u → Gives t env v → Gives u env v
-finished-bytes finished form room-length out-length bytes passes units t u env v h r e reads gives =
+    → run form room-length out-length ≡ finished bytes passes units false → (r : Reading) → read-form form 0 ≡ done t r → ReadsAs bytes u → Gives t env v → Gives u env v
+finished-bytes keeps form room-length out-length bytes passes units t u env v h r e reads gives =
     let a = run-inv form room-length out-length bytes passes units false h in
     let same : a .tree ≡ u = one-tree bytes (a .tree) u (answer-reads a) reads in
     let unmarked : a .spent .mark ≡ false = ap (λ (s : Spent). s .mark) (a .counted) in
     subst (λ w. Gives w env v) same
-    (finished nesting-limit t (a .tree) (after-reading r) (a .spent) (sym (worked-read form t r e) ∙ a .finished) unmarked env v gives)
+    (keeps nesting-limit t (a .tree) (after-reading r) (a .spent) (sym (worked-read form t r e) ∙ a .finished) unmarked env v gives)

@@ -28,6 +28,8 @@ pub mod NarrowEvaluate
 pub mod NarrowMatch
 pub mod NarrowRules
 pub mod NarrowDriver
+pub mod Late
+pub mod Lent
 pub mod RunLaws
 pub mod FinishedBytes
 pub mod ReadEnough

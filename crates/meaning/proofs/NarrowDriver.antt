@@ -5,10 +5,10 @@ use mathlib.Core.List.{List, [], _∷_}
 use Rattle.meaning.specs.Tree.{Tree, atom, pair, equal-to}
 use Rattle.meaning.specs.Limits.{pass-limit, nesting-limit}
 use Rattle.meaning.specs.Meter.{done, W, Spent, give, one-pass}
-use Rattle.meaning.specs.Form.{write, ReadsAs}
+use Rattle.meaning.specs.Form.{write, ReadsAs, Narrow}
 use Rattle.meaning.specs.Driver.{optimizers, ends-pass, pass, loop, optimize-sexp}
 use Rattle.meaning.specs.Run.{after-reading, worked}
-use Rattle.meaning.proofs.Atoms.{Narrow, narrow-writable}
+use Rattle.meaning.proofs.Atoms.{narrow-writable}
 use Rattle.meaning.proofs.WriteRead.{reads-as-written}
 use Rattle.meaning.proofs.ReadWrite.{form-read}
 use Rattle.meaning.proofs.RunLaws.{worked-inv}

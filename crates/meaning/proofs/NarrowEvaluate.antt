@@ -10,7 +10,8 @@ use Rattle.meaning.specs.Limits.{step-limit}
 use Rattle.meaning.specs.Meter.{chargeE, one-step}
 use Rattle.meaning.specs.Operator.{Op, apply, choose, cons, first, rest, listp, raise, same, Head, quoted, op, other, head-of, takes, Made, makes, runs, cannot, one, two, three, yes-no, chosen, left-of, right-of, is-pair, same-atom, perform}
 use Rattle.meaning.specs.Evaluate.{RunnerB, foundB, each-valueB, finishB, callB, operateB, stepB, evalB, evaluate}
-use Rattle.meaning.proofs.Atoms.{Narrow, narrow-nil, narrow-byte}
+use Rattle.meaning.specs.Form.{Narrow}
+use Rattle.meaning.proofs.Atoms.{narrow-nil, narrow-byte}
 use Rattle.meaning.proofs.Yields.{Every, IfSome, Yields, y-bind, y-seq, y-give, y-refuse, y-if}
 
 abbrev pub AllNarrow : List Tree → Type 0

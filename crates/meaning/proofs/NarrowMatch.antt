@@ -6,7 +6,8 @@ use mathlib.Core.Option.{Option, none, some}
 use Rattle.meaning.specs.Tree.{Tree, atom, pair, enlist, same-bytes, equal-to, is-byte}
 use Rattle.meaning.specs.Match.{Binding, Match, matched, no-match, too-many-names, atom-match, sexp-match, get, insert, unify-bindings, at-atom, _and-then_, match-sexp, got}
 use Rattle.meaning.specs.Substitute.{sub-turns, first-name, rest-name, cons-pattern, or-else, cons-f, cons-r, path-from-args, is-proper, sub-args, sub-each}
-use Rattle.meaning.proofs.Atoms.{Narrow, narrow-nil, narrow-byte}
+use Rattle.meaning.specs.Form.{Narrow}
+use Rattle.meaning.proofs.Atoms.{narrow-nil, narrow-byte}
 use Rattle.meaning.proofs.Yields.{Every, IfSome, either-way}
 
 -- ---- the matcher

@@ -13,8 +13,9 @@ use Rattle.meaning.specs.Match.{Match, matched, no-match, too-many-names
 use Rattle.meaning.specs.Constant.{seems-constant}
 use Rattle.meaning.specs.Substitute.{first-name, rest-name, sub-args, sub-cost, reads-low}
 use Rattle.meaning.specs.Rules.{cons-optimizer-pattern, cons-optimizer, constant-optimizer, sexp-name, args-name, apply-pattern, Applied, applied, not-applied, both-got, applied-of, is-args-call, cons-q-a-optimizer, each, non-constant, none-of, settle, var-change-optimizer-cons-eval, same-trees, relist, children, children-optimizer, atom-name, atom-pattern, path-to, misread, longer, path-optimizer, nil-if, quote-pattern-1, quote-null-optimizer, apply-null-pattern-1, apply-null-optimizer}
+use Rattle.meaning.specs.Form.{Narrow}
 use Rattle.meaning.proofs.Tests.{leb-yes}
-use Rattle.meaning.proofs.Atoms.{Narrow, narrow-nil, narrow-byte}
+use Rattle.meaning.proofs.Atoms.{narrow-nil, narrow-byte}
 use Rattle.meaning.proofs.Yields.{Every, IfSome, either-way, Yields, y-bind, y-seq, y-give, y-refuse, y-if, y-within}
 use Rattle.meaning.proofs.NarrowEvaluate.{AllNarrow, elements-narrow, evaluate-narrow}
 use Rattle.meaning.proofs.NarrowMatch.{got-narrow, or-else-narrow, sub-narrow}

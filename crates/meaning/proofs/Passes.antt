@@ -54,7 +54,7 @@ abbrev to-be-alike : ℕ → Kept
 to-be-alike k = record {
   rel = λ m n. Alike k m n;
   by-give = λ a. agree-give passes-of k a;
-  by-refuse = λ n. agree-refuse passes-of k k n;
+  by-refuse = λ n h. agree-refuse passes-of k k n;
   by-bind = λ mn fg. agree-bind passes-of mn fg;
   by-charge = alike-charge k;
   by-pass = agree-less passes-of k (omega arith) (one-pass-more k);

@@ -11,10 +11,10 @@ use native.Mathlib.Nat.{div-lt-iff-lt-mul, div-one, one-le-pow}
 use Rattle.refusals.specs.declared.Refusal.the-variants.{BadPrefix}
 use Rattle.meaning.specs.Limits.{atom-cost}
 use Rattle.meaning.specs.Meter.{done, stop, _>>=_, _>>_, give, refuse, hold}
-use Rattle.meaning.specs.Form.{Reading, write-length, write-atom, more, sized, length-from, needs-prefix}
+use Rattle.meaning.specs.Form.{Reading, write-length, write-atom, more, sized, length-from, needs-prefix, IsBytes}
 use Rattle.meaning.proofs.Tests.{on-bool, not-false, leb-yes, leb-true, leb-no}
 use Rattle.meaning.proofs.MeterLaws.{not-stop, bind-inv, seq-inv, bind-at, seq-at}
-use Rattle.meaning.proofs.ReaderLaws.{IsBytes, at, Took, gave, held, hold-at, digits, more-at, more-inv}
+use Rattle.meaning.proofs.ReaderLaws.{at, Took, gave, held, hold-at, digits, more-at, more-inv}
 
 pub ltb-yes : (m n : ℕ) → ltb m n ≡ true → m < n
 ltb-yes m n h = leb-yes (suc m) n h

@@ -11,12 +11,12 @@ use Rattle.refusals.specs.declared.Refusal.the-variants.{AtomLong, BadPrefix, B
 use Rattle.meaning.specs.Tree.{Tree, atom, pair, nil, byte, is-empty}
 use Rattle.meaning.specs.Limits.{form-limit, unit-limit, pair-cost, atom-cost}
 use Rattle.meaning.specs.Meter.{M, done, _>>=_, _>>_, give, hold}
-use Rattle.meaning.specs.Form.{write-length, write-atom, write, Reading, Bounds, limits, no-limits, next, spend, length-from, body, needs-prefix, read-long, read-atom, read, at-end, read-whole, read-form, ReadsAs}
+use Rattle.meaning.specs.Form.{write-length, write-atom, write, Reading, Bounds, limits, no-limits, next, spend, length-from, body, needs-prefix, read-long, read-atom, read, at-end, read-whole, read-form, ReadsAs, EveryAtom, Narrow, Writable, tree-cost, IsBytes}
 use Rattle.meaning.proofs.Tests.{on-bool, not-false, leb-yes, eqb-sound}
 use Rattle.meaning.proofs.TreeLaws.{is-empty-sound}
 use Rattle.meaning.proofs.MeterLaws.{not-stop, bind-inv, seq-inv}
-use Rattle.meaning.proofs.Atoms.{EveryAtom, Fits, Narrow, Writable, tree-cost, fits-narrow}
-use Rattle.meaning.proofs.ReaderLaws.{IsBytes, at, Took, took-none, took-then, took-as, took-bytes, gave, held, next-inv, spend-inv, body-inv}
+use Rattle.meaning.proofs.Atoms.{Fits, fits-narrow}
+use Rattle.meaning.proofs.ReaderLaws.{at, Took, took-none, took-then, took-as, took-bytes, gave, held, next-inv, spend-inv, body-inv}
 use Rattle.meaning.proofs.Prefix.{prefix-inv, prefixed, ltb-yes, ltb-no}
 use Rattle.meaning.proofs.WriteRead.{two-parts}
 

@@ -3,20 +3,16 @@ use Prim.Native.Nat.{ℕ, zero, suc, _+_, _*_, _/_, _%_, _^_, _<_}
 use mathlib.Core.Path.{_≡_, refl, sym, _∙_, subst, ap, ap₂}
 use mathlib.Core.List.{List, [], _∷_, _++_, append-assoc}
 use mathlib.Core.Bool.{Bool, true, false}
-use lib.ListN.{length, getD}
+use lib.ListN.{length}
 use native.Mathlib.Omega.{arith}
 use native.Mathlib.Nat.{pow-suc, div-div-eq-div-mul, div-one, add-zero}
 use Rattle.refusals.specs.declared.Refusal.{Refusal}
 use Rattle.meaning.specs.Meter.{done, _>>=_, give, hold}
-use Rattle.meaning.specs.Form.{Reading, Bounds, first-of, next, more, body, spend}
+use Rattle.meaning.specs.Form.{Reading, Bounds, first-of, next, more, body, spend, IsBytes}
 use Rattle.meaning.proofs.Tests.{on-bool}
 use Rattle.meaning.proofs.MeterLaws.{not-stop, bind-inv, bind-at}
 
 -- ---- bytes
-
--- every one is below 256 (past the end stands 0)
-unfoldable pub IsBytes : List ℕ → Type 0
-IsBytes l = (i : ℕ) → getD l i 0 < 256
 
 first-byte : (b : ℕ) (l : List ℕ) → IsBytes (b ∷ l) → b < 256
 unfolding IsBytes

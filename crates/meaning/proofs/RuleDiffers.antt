@@ -1,18 +1,16 @@
 -- When a rule gives another tree than its input: always, where it matched. Assumes nothing.
-use Prim.Native.Nat.{ℕ, _+_}
+use Prim.Native.Nat.{ℕ}
 use mathlib.Core.Path.{_≡_, refl}
 use mathlib.Core.List.{List, [], _∷_}
 use mathlib.Core.Bool.{Bool, true, false, _&&_, not}
 use mathlib.Core.Option.{none, some}
 use native.Mathlib.Omega.{arith}
 use Rattle.meaning.specs.Tree.{Tree, atom, nil, equal-to, same-bytes, is-byte, is-quote, non-nil, quote}
-use Rattle.meaning.specs.Limits.{pair-cost}
-use Rattle.meaning.specs.Meter.{Spent, done, _>>=_, _>>_, give, charge, within}
-use Rattle.meaning.specs.Evaluate.{evaluate}
+use Rattle.meaning.specs.Meter.{Spent, done}
 use Rattle.meaning.specs.Match.{Match, Binding, matched, no-match, too-many-names, match-sexp, get, got}
 use Rattle.meaning.specs.Constant.{seems-constant}
 use Rattle.meaning.specs.Substitute.{first-name, rest-name}
-use Rattle.meaning.specs.Rules.{cons-optimizer-pattern, cons-optimizer, constant-optimizer, applied, not-applied, applied-of, is-args-call, cons-q-a-optimizer, atom-name, atom-pattern, longer, path-optimizer, quote-pattern-1, quote-null-optimizer, apply-null-pattern-1, apply-null-optimizer}
+use Rattle.meaning.specs.Rules.{cons-optimizer-pattern, cons-optimizer, worked-out, constant-optimizer, applied, not-applied, applied-of, is-args-call, cons-q-a-optimizer, atom-name, atom-pattern, longer, path-optimizer, quote-pattern-1, quote-null-optimizer, apply-null-pattern-1, apply-null-optimizer}
 use Rattle.meaning.proofs.Tests.{on-bool, not-true}
 use Rattle.meaning.proofs.TreeLaws.{equal-to-sound}
 use Rattle.meaning.proofs.MatchLaws.{bind}
@@ -71,7 +69,7 @@ quote-differs r v q = on-bool (equal-to r (quote v)) (λ e. not-true (rw (equal-
 abbrev pub is-worked-out : Tree → Bool
 is-worked-out r = not (is-quote r) && seems-constant r && non-nil r
 
-pub constant-gives : (r : Tree) → is-worked-out r ≡ true → (s : Spent) → constant-optimizer r s ≡ (within (evaluate r nil) >>= λ v. charge (5 + pair-cost) >> give (quote v)) s
+pub constant-gives : (r : Tree) → is-worked-out r ≡ true → (s : Spent) → constant-optimizer r s ≡ worked-out r s
 unfolding constant-optimizer
 constant-gives r t s = rw (t, constant-optimizer)
 

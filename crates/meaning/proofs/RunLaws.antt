@@ -1,22 +1,23 @@
--- What an answer says of its run, and that a run changes no length of what is lent. Assumes nothing.
-use Prim.Native.Nat.{ℕ, zero, suc, _+_, _-_, _≤_}
-use mathlib.Core.Path.{_≡_, refl, sym, subst, ap}
-use mathlib.Core.List.{List, [], _∷_, _++_}
-use mathlib.Core.Bool.{Bool}
-use lib.Dec.{leb, eqb}
-use lib.ListN.{length, drop, getD, length-append, length-drop}
+-- What an answer says of its run, and what a run leaves of what is lent. Assumes nothing.
+use Prim.Native.Nat.{ℕ, _≤_}
+use mathlib.Core.Path.{_≡_, refl, sym, subst}
+use mathlib.Core.List.{List, _∷_}
+use mathlib.Core.Bool.{Bool, true, false}
+use lib.Dec.{leb}
+use lib.ListN.{length}
 use native.Mathlib.Omega.{arith}
 use Rattle.refusals.specs.declared.Refusal.{Refusal}
-use Rattle.refusals.specs.Numbers.{number-of}
 use Rattle.meaning.specs.Tree.{Tree}
 use Rattle.meaning.specs.Limits.{room-least, nesting-limit}
 use Rattle.meaning.specs.Meter.{Out, done, stop, Spent}
 use Rattle.meaning.specs.Form.{Reading, read-form, write}
 use Rattle.meaning.specs.Driver.{optimize-sexp}
-use Rattle.meaning.specs.Run.{Ran, answered, refused, after-reading, worked, deliver, run, out-after, zeroed, room-after}
+use Rattle.meaning.specs.Outcome.{plain, answered, refused, deliver, deliver-tree, ended, in-room}
+use Rattle.meaning.specs.Run.{mark-number, finished, after-reading, worked, deliver-run, run}
 use Rattle.meaning.proofs.Tests.{on-bool, leb-yes}
 use Rattle.meaning.proofs.MeterLaws.{not-stop}
-use Rattle.meaning.proofs.Yields.{either-way}
+use Rattle.meaning.proofs.Late.{Touched, late-read, late-driver}
+use Rattle.meaning.proofs.Lent.{every, Fits, fits-tree, Zeros, zeros-tree, zeros-ended, Long, long-tree, long-told}
 
 -- ---- the work
 
@@ -39,16 +40,18 @@ worked-inv form u s h = go (read-form form 0) refl h
 
 -- ---- an answer
 
-IsAnswer : Ran → Type 0
-IsAnswer (answered bytes passes units mark) = Unit {0}
-IsAnswer (refused n) = ⊥
+pub mark-only : (a b : Bool) → mark-number a ≡ mark-number b → a ≡ b
+unfolding mark-number
+mark-only true true e = refl
+mark-only true false e = absurd (omega arith)
+mark-only false true e = absurd (omega arith)
+mark-only false false e = refl
 
-not-refused : {X : Type 0} {n : Refusal} {bytes : List ℕ} {passes units : ℕ} {mark : Bool} → refused n ≡ answered bytes passes units mark → X
-unfolding IsAnswer
-not-refused h = absurd (subst IsAnswer (sym h) tt)
+not-refused : {X : Type 0} {n : Refusal} {bytes ns : List ℕ} → refused n ≡ answered bytes plain ns → X
+not-refused h = absurd (let z : _≡_ {A = ℕ} 0 1 = cc in omega arith)
 
-same-answer : (a b : List ℕ) (p q u v : ℕ) (m n : Bool) → answered a p u m ≡ answered b q v n → (a ≡ b) × (p ≡ q) × (u ≡ v) × (m ≡ n)
-same-answer a b p q u v m n h = (cc, cc, cc, cc)
+same-answer : (a b : List ℕ) (p q u v : ℕ) (m n : Bool) → finished a p u m ≡ finished b q v n → (a ≡ b) × (p ≡ q) × (u ≡ v) × (m ≡ n)
+same-answer a b p q u v m n h = (cc, cc, cc, mark-only m n cc)
 
 -- the finished tree, what was spent, and that its written form fits the output
 pub record Answer (form : List ℕ) (out-length : ℕ) (bytes : List ℕ) (passes units : ℕ) (mark : Bool) : Type 0 where
@@ -59,15 +62,15 @@ pub record Answer (form : List ℕ) (out-length : ℕ) (bytes : List ℕ) (passe
   pub fits : length bytes ≤ out-length
   pub counted : spent ≡ record { units = units; passes = passes; mark = mark }
 
-pub run-inv : (form : List ℕ) (room-length out-length : ℕ) (bytes : List ℕ) (passes units : ℕ) (mark : Bool) → run form room-length out-length ≡ answered bytes passes units mark
+pub run-inv : (form : List ℕ) (room-length out-length : ℕ) (bytes : List ℕ) (passes units : ℕ) (mark : Bool) → run form room-length out-length ≡ finished bytes passes units mark
     → Answer form out-length bytes passes units mark
-unfolding run deliver
+unfolding run ended deliver-run deliver-tree deliver
 run-inv form room-length out-length bytes passes units mark h =
     on-bool (leb room-least room-length)
-    (λ e. go (worked form) refl (rw (e, run) at h))
-    (λ e. not-refused (rw (e, run) at h))
+    (λ e. go (worked form) refl (rw (e, in-room) at h))
+    (λ e. not-refused (rw (e, in-room) at h))
   where
-    go : (o : Out Spent Tree) → worked form ≡ o → deliver out-length o ≡ answered bytes passes units mark → Answer form out-length bytes passes units mark
+    go : (o : Out Spent Tree) → worked form ≡ o → ended (deliver-run out-length) o ≡ finished bytes passes units mark → Answer form out-length bytes passes units mark
     go (done t s) e k =
         on-bool (leb (length (write t)) out-length)
         (λ f.
@@ -84,44 +87,26 @@ run-inv form room-length out-length bytes passes units mark h =
     go (stop n s) e k = not-refused k
 
 -- The answer fits the output.
-pub answer-fits : (form : List ℕ) (room-length out-length : ℕ) (bytes : List ℕ) (passes units : ℕ) (mark : Bool) → run form room-length out-length ≡ answered bytes passes units mark
+pub answer-fits : (form : List ℕ) (room-length out-length : ℕ) (bytes : List ℕ) (passes units : ℕ) (mark : Bool) → run form room-length out-length ≡ finished bytes passes units mark
     → length bytes ≤ out-length
 answer-fits form room-length out-length bytes passes units mark h = run-inv form room-length out-length bytes passes units mark h .fits
 
--- ---- the lent bytes
+-- whatever comes, what is written fits, and the room is all zero after it
+pub run-fits : (form : List ℕ) (room-length out-length : ℕ) → Fits out-length (run form room-length out-length)
+unfolding run deliver-run Fits
+run-fits form room-length out-length = every (Fits out-length) (deliver-run out-length) (λ n. tt) (λ t s. fits-tree out-length t _) room-length (worked form)
 
--- A refusal leaves the output.
-pub refused-output : (n : Refusal) (out : List ℕ) → out-after (refused n) out ≡ out
-unfolding out-after
-refused-output n out = refl
-
--- The output keeps its length.
-pub output-kept : (form : List ℕ) (room-length out-length : ℕ) (out : List ℕ) → length out ≡ out-length → length (out-after (run form room-length out-length) out) ≡ length out
-unfolding out-after
-output-kept form room-length out-length out e = go (run form room-length out-length) refl
+pub run-zeros : (form : List ℕ) (out-length : ℕ) → Zeros (ended (deliver-run out-length) (worked form))
+unfolding deliver-run worked Touched
+run-zeros form out-length = zeros-ended (deliver-run out-length) (λ t s. zeros-tree out-length t _) (worked form) (touched (read-form form 0) refl)
   where
-    go : (r : Ran) → run form room-length out-length ≡ r → length (out-after r out) ≡ length out
-    go (answered bytes passes units mark) h =
-        let k : length bytes ≤ out-length = answer-fits form room-length out-length bytes passes units mark h in
-        let i : length (bytes ++ drop (length bytes) out) ≡ length bytes + length (drop (length bytes) out) = length-append bytes (drop (length bytes) out) in
-        let j : length (drop (length bytes) out) ≡ length out - length bytes = length-drop (length bytes) out in
-        omega arith
-    go (refused n) h = refl
+    touched : (o : Out Reading Tree) → read-form form 0 ≡ o
+        → Touched {S = Spent} {A = Tree} (elim o [ done t r ↦ optimize-sexp nesting-limit t (after-reading r) | stop n r ↦ stop n (after-reading r) ])
+    touched (done t r) e = late-driver nesting-limit t .so (after-reading r)
+    touched (stop n r) e = subst Touched e (late-read form 0)
 
--- Zeros are as many as the bytes that they replace, and zero.
-pub zeroed-length : (room : List ℕ) → length (zeroed room) ≡ length room
-unfolding zeroed
-zeroed-length [] = refl
-zeroed-length (b ∷ bs) = ap suc (zeroed-length bs)
-
-pub zeroed-zero : (room : List ℕ) (i : ℕ) → getD (zeroed room) i 0 ≡ 0
-unfolding zeroed
-zeroed-zero [] i = refl
-zeroed-zero (b ∷ bs) zero = refl
-zeroed-zero (b ∷ bs) (suc i) = zeroed-zero bs i
-
--- The room keeps its length.
-pub room-kept : (r : Ran) (room : List ℕ) → length (room-after r room) ≡ length room
-unfolding room-after
-room-kept (answered bytes passes units mark) room = zeroed-length room
-room-kept (refused n) room = either-way (λ l. length l ≡ length room) (eqb (number-of n) 1) room (zeroed room) refl (zeroed-length room)
+-- an answer's first number is how many bytes it writes
+pub run-length : (form : List ℕ) (room-length out-length : ℕ) (bytes : List ℕ) (n : ℕ) (ms : List ℕ) → run form room-length out-length ≡ answered bytes plain (n ∷ ms) → length bytes ≡ n
+unfolding run deliver-run Long
+run-length form room-length out-length bytes n ms e =
+    long-told (run form room-length out-length) bytes plain n ms (every Long (deliver-run out-length) (λ r. tt) (λ t s. long-tree out-length t _) room-length (worked form)) e

@@ -1,11 +1,14 @@
 -- What holds of two pieces of work, and is kept by the ways in which the driver puts work together, holds of the rules and the driver. Assumes nothing.
 use Prim.Native.Nat.{ℕ, zero, suc, _*_}
+use mathlib.Core.Path.{_≡_, refl}
 use mathlib.Core.List.{List, [], _∷_}
 use mathlib.Core.Bool.{Bool, true, false, _&&_, not}
 use mathlib.Core.Option.{Option, none, some}
 use lib.Dec.{leb}
 use lib.ListN.{length}
 use Rattle.refusals.specs.declared.Refusal.{Refusal}
+use Rattle.refusals.specs.declared.Refusal.the-variants.{PathLong, PassesOut}
+use Rattle.refusals.specs.Numbers.{leaves-room}
 use Rattle.meaning.specs.Tree.{Tree, atom, pair, nil, enlist, equal-to, proper-list, non-nil, is-quote, quote}
 use Rattle.meaning.specs.Number.{node-path-index, compose-paths, bytes-of}
 use Rattle.meaning.specs.Limits.{path-limit, pair-cost}
@@ -21,7 +24,8 @@ use Rattle.meaning.specs.Driver.{optimizers, pass, loop}
 pub record Kept : Type 1 where
   pub rel : {A : Type 0} → W A → W A → Type 0
   pub by-give : {A : Type 0} (a : A) → rel (give a) (give a)
-  pub by-refuse : {A : Type 0} (n : Refusal) → rel (refuse {A = A} n) (refuse n)
+  -- (none of the driver's refusals leaves the room as it came in)
+  pub by-refuse : {A : Type 0} (n : Refusal) → leaves-room n ≡ false → rel (refuse {A = A} n) (refuse n)
   pub by-bind : {A B : Type 0} {m n : W A} {f g : A → W B} → rel m n → ((a : A) → rel (f a) (g a)) → rel (m >>= f) (n >>= g)
   pub by-charge : (c : ℕ) → rel (charge c) (charge c)
   pub by-pass : rel one-pass one-pass
@@ -49,7 +53,7 @@ module _ (K : Kept) where
 
   walk-path-to : (bs : List ℕ) (off : Bool) → K .rel (path-to bs off) (path-to bs off)
   unfolding path-to
-  walk-path-to bs off = by-if (leb (length bs) path-limit) (by-seq (K .by-mark off) (by-seq (K .by-charge _) (K .by-give (atom bs)))) (K .by-refuse _)
+  walk-path-to bs off = by-if (leb (length bs) path-limit) (by-seq (K .by-mark off) (by-seq (K .by-charge _) (K .by-give (atom bs)))) (K .by-refuse PathLong refl)
 
   walk-longer : (r : Tree) (o : Option Tree) (q : ℕ) → K .rel (longer r o q) (longer r o q)
   unfolding longer
@@ -152,7 +156,7 @@ module _ (K : Kept) where
 
     pub walk-loop : (n : ℕ) (t : Tree) → K .rel (loop f n t) (loop g n t)
     unfolding loop
-    walk-loop zero t = K .by-refuse _
+    walk-loop zero t = K .by-refuse PassesOut refl
     walk-loop (suc n) (atom b) = K .by-give (atom b)
     walk-loop (suc n) (pair l r) =
         by-seq (K .by-pass) (K .by-bind (walk-pass 1 (pair l r)) (λ t. by-if (equal-to (pair l r) t) (K .by-give (pair l r)) (walk-loop n t)))

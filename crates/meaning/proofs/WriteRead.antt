@@ -12,10 +12,10 @@ use Rattle.refusals.specs.declared.Refusal.the-variants.{AtomLong, BadPrefix}
 use Rattle.meaning.specs.Tree.{Tree, atom, pair, nil, byte, is-empty}
 use Rattle.meaning.specs.Limits.{form-limit, unit-limit, pair-cost, atom-cost}
 use Rattle.meaning.specs.Meter.{M, done, _>>=_, _>>_, give, hold}
-use Rattle.meaning.specs.Form.{write-length, write-atom, write, Reading, Bounds, limits, no-limits, next, first-of, spend, length-from, body, needs-prefix, read-long, read-atom, read, at-end, read-whole, read-form, ReadsAs}
+use Rattle.meaning.specs.Form.{write-length, write-atom, write, Reading, Bounds, limits, no-limits, next, first-of, spend, length-from, body, needs-prefix, read-long, read-atom, read, at-end, read-whole, read-form, ReadsAs, EveryAtom, Narrow, Writable, tree-cost}
 use Rattle.meaning.proofs.Tests.{on-bool, leb-true, leb-no, eqb-sound}
 use Rattle.meaning.proofs.MeterLaws.{bind-at, seq-at}
-use Rattle.meaning.proofs.Atoms.{EveryAtom, atoms-map, Fits, UnitsFit, Narrow, Writable, tree-cost, narrow-fits, narrow-writable}
+use Rattle.meaning.proofs.Atoms.{atoms-map, Fits, UnitsFit, narrow-fits, narrow-writable}
 use Rattle.meaning.proofs.ReaderLaws.{at, hold-at, spend-at, body-at, digits}
 use Rattle.meaning.proofs.Prefix.{bytes-more, from, size-of, write-sized, prefix-at, first-long, first-short, prefixed, ltb-yes, ltb-no}
 

@@ -1,13 +1,13 @@
 -- Document 01, "Serialised form": the one written form of a tree, and reading it.
-use Prim.Native.Nat.{ℕ, zero, suc, _+_, _-_, _*_, _/_, _%_, _^_}
+use Prim.Native.Nat.{ℕ, zero, suc, _+_, _-_, _*_, _/_, _%_, _^_, _≤_, _<_}
 use mathlib.Core.Path.{_≡_}
 use mathlib.Core.List.{List, [], _∷_, _++_}
 use mathlib.Core.Bool.{Bool, true, false}
 use lib.Dec.{eqb, leb, ltb}
-use lib.ListN.{length}
+use lib.ListN.{length, getD}
 use Rattle.refusals.specs.declared.Refusal.the-variants.{FormLong, EndsEarly, BadPrefix, AtomLong, BytesAfter, UnitsOut}
 use Rattle.meaning.specs.Tree.{Tree, atom, pair, nil, byte, is-empty}
-use Rattle.meaning.specs.Limits.{form-limit, atom-limit, unit-limit, pair-cost}
+use Rattle.meaning.specs.Limits.{form-limit, atom-limit, unit-limit, pair-cost, atom-cost}
 use Rattle.meaning.specs.Meter.{Out, done, stop, M, _>>=_, _>>_, give, refuse, hold}
 
 -- ---- writing
@@ -182,3 +182,30 @@ read-form bs u = elim (leb (length bs) form-limit) [
 unfoldable pub ReadsAs : List ℕ → Tree → Type 0
 unfolding read-whole
 ReadsAs bs t = (s : Reading) × (read-whole no-limits bs 0 ≡ done t s)
+
+-- ---- what the demands say of bytes and of trees
+
+-- every one is below 256 (past the end stands 0)
+unfoldable pub IsBytes : List ℕ → Type 0
+IsBytes l = (i : ℕ) → getD l i 0 < 256
+
+-- P holds of the bytes of every atom
+unfoldable pub EveryAtom : (List ℕ → Type 0) → Tree → Type 0
+EveryAtom P (atom b) = P b
+EveryAtom P (pair l r) = EveryAtom P l × EveryAtom P r
+
+-- "atom at most 64 bytes": every atom of a tree
+unfoldable pub Narrow : Tree → Type 0
+unfolding EveryAtom
+Narrow t = EveryAtom (λ b. length b ≤ atom-limit) t
+
+-- every atom has fewer than 2 ^ 34 bytes: the longest prefix can say its length
+unfoldable pub Writable : Tree → Type 0
+unfolding EveryAtom
+Writable t = EveryAtom (λ b. length b < 2 ^ 34) t
+
+-- "a pair costs 8, an atom of n bytes costs 4 + n, nil costs nothing": a whole tree
+unfoldable pub tree-cost : Tree → ℕ
+unfolding atom-cost
+tree-cost (atom b) = atom-cost b
+tree-cost (pair l r) = tree-cost l + tree-cost r + pair-cost

@@ -10,4 +10,5 @@ pub mod Constant
 pub mod Substitute
 pub mod Rules
 pub mod Driver
+pub mod Outcome
 pub mod Run

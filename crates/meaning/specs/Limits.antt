@@ -1,5 +1,5 @@
 -- Document 01, "Numbers that bound a run": each limit and each charge, by name.
-use Prim.Native.Nat.{ℕ, _+_}
+use Prim.Native.Nat.{ℕ, _+_, _-_}
 use mathlib.Core.List.{List, [], _∷_}
 use lib.ListN.{length}
 
@@ -23,6 +23,10 @@ pass-limit = 65_536
 
 abbrev pub nesting-limit : ℕ
 nesting-limit = 64
+
+-- driver calls that may nest from this nesting on, its own included: 64 at nesting 1, none at 65
+abbrev pub height-at : ℕ → ℕ
+height-at nest = nesting-limit + 1 - nest
 
 -- steps of one evaluation
 abbrev pub step-limit : ℕ

@@ -81,6 +81,7 @@ unfoldable pub right-of : Tree → Made
 right-of (atom b) = cannot
 right-of (pair l r) = makes r 0
 
+-- `l`: "the atom 1 for a pair, else nil"; the driver asks it too
 unfoldable pub is-pair : Tree → Bool
 is-pair (atom b) = false
 is-pair (pair l r) = true

@@ -30,16 +30,17 @@ cons-optimizer r =
 
 -- ---- 2. `constant_optimizer`: "a form that seems constant, isn't quoted and isn't nil becomes the quote of its value under nil"
 
--- its quote is charged: an atom of one byte and a pair
+-- the quote of its value under nil is charged: an atom of one byte and a pair
+unfoldable pub worked-out : Tree → W Tree
+unfolding within evaluate charge give _>>=_ _>>_ quote
+worked-out r = do
+  v ← within (evaluate r nil)
+  charge (5 + pair-cost)
+  give (quote v)
+
 unfoldable pub constant-optimizer : Tree → W Tree
-unfolding is-quote seems-constant non-nil within evaluate charge give _>>=_ _>>_ quote
-constant-optimizer r = elim (not (is-quote r) && seems-constant r && non-nil r) [
-  | true ↦ (do
-    v ← within (evaluate r nil)
-    charge (5 + pair-cost)
-    give (quote v))
-  | false ↦ give r
-]
+unfolding is-quote seems-constant non-nil worked-out give
+constant-optimizer r = elim (not (is-quote r) && seems-constant r && non-nil r) [ true ↦ worked-out r | false ↦ give r ]
 
 -- ---- 3. `cons_q_a_optimizer`: "`(a (q . S) 1)` gives S"
 

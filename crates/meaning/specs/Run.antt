@@ -1,22 +1,23 @@
--- The whole of a run: from the form's bytes, and the lengths of the lent room and output, to the answer and every lent byte.
+-- The whole of a run: from the form's bytes, and the lengths of the lent room and output, to its outcome.
 use Prim.Native.Nat.{ℕ}
-use mathlib.Core.List.{List, [], _∷_, _++_}
+use mathlib.Core.List.{List, [], _∷_}
 use mathlib.Core.Bool.{Bool, true, false}
-use lib.Dec.{eqb, leb}
-use lib.ListN.{length, drop}
-use Rattle.refusals.specs.declared.Refusal.{Refusal}
-use Rattle.refusals.specs.declared.Refusal.the-variants.{RoomSmall, OutputShort}
-use Rattle.refusals.specs.Numbers.{number-of}
+use lib.ListN.{length}
 use Rattle.meaning.specs.Tree.{Tree}
-use Rattle.meaning.specs.Limits.{room-least, nesting-limit}
+use Rattle.meaning.specs.Limits.{nesting-limit}
 use Rattle.meaning.specs.Meter.{Out, done, stop, Spent}
-use Rattle.meaning.specs.Form.{Reading, read-form, write}
+use Rattle.meaning.specs.Form.{Reading, read-form}
 use Rattle.meaning.specs.Driver.{optimize-sexp}
+use Rattle.meaning.specs.Outcome.{Outcome, plain, answered, deliver-tree, ended, in-room}
 
--- "An answer returns length, passes, units and mark", and writes these bytes; "every refusal returns only its number"
-pub data Ran : Type 0 where
-  answered : (bytes : List ℕ) (passes units : ℕ) (mark : Bool) → Ran
-  refused : Refusal → Ran
+-- "The mark is 1 if .. Otherwise 0"
+unfoldable pub mark-number : Bool → ℕ
+mark-number true = 1
+mark-number false = 0
+
+-- "An answer returns length, passes, units and mark", and writes these bytes
+abbrev pub finished : List ℕ → ℕ → ℕ → Bool → Outcome
+finished bytes passes units mark = answered bytes plain (length bytes ∷ passes ∷ units ∷ mark-number mark ∷ [])
 
 -- what a run has spent when its form is read
 abbrev pub after-reading : Reading → Spent
@@ -30,37 +31,12 @@ worked form = elim (read-form form 0) [
   | stop n r ↦ stop n (after-reading r)
 ]
 
--- "14 last"
-unfoldable pub deliver : ℕ → Out Spent Tree → Ran
-unfolding write
-deliver out-length (done t s) = elim (leb (length (write t)) out-length) [
-  | true ↦ answered (write t) (s .passes) (s .units) (s .mark)
-  | false ↦ refused OutputShort
-]
-deliver out-length (stop n s) = refused n
+-- the finished tree, and what the run took
+unfoldable pub deliver-run : ℕ → Tree → Spent → Outcome
+unfolding deliver-tree mark-number
+deliver-run out-length t s = deliver-tree out-length t (s .passes ∷ s .units ∷ mark-number (s .mark) ∷ [])
 
 -- the form, how many bytes of room are lent, how many of output
-unfoldable pub run : List ℕ → ℕ → ℕ → Ran
-unfolding worked deliver
-run form room-length out-length = elim (leb room-least room-length) [
-  | true ↦ deliver out-length (worked form)
-  | false ↦ refused RoomSmall
-]
-
--- ---- every lent byte
-
--- the output after: the answer's bytes over its beginning; "every refusal .. leaves the output as it came in"
-unfoldable pub out-after : Ran → List ℕ → List ℕ
-out-after (answered bytes passes units mark) out = bytes ++ drop (length bytes) out
-out-after (refused n) out = out
-
--- as many zeros
-unfoldable pub zeroed : List ℕ → List ℕ
-zeroed [] = []
-zeroed (b ∷ bs) = 0 ∷ zeroed bs
-
--- "Lent working room is all zero after any return but refusal 1, which leaves it unchanged"
-unfoldable pub room-after : Ran → List ℕ → List ℕ
-unfolding zeroed
-room-after (answered bytes passes units mark) room = zeroed room
-room-after (refused n) room = elim (eqb (number-of n) 1) [ true ↦ room | false ↦ zeroed room ]
+unfoldable pub run : List ℕ → ℕ → ℕ → Outcome
+unfolding worked deliver-run ended in-room
+run form room-length out-length = in-room room-length (ended (deliver-run out-length) (worked form))

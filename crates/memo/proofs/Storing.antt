@@ -1,29 +1,28 @@
 -- A call that ended may be stored. Assumes nothing.
-use mathlib.Core.Path.{_≡_, refl, _∙_, ap}
+use mathlib.Core.Path.{_≡_, refl, ap}
 use mathlib.Core.List.{List}
-use mathlib.Core.Bool.{Bool}
-use Prim.Native.Nat.{ℕ, _+_, _-_, _<_, _≤_}
+use Prim.Native.Nat.{ℕ, _+_, _<_}
 use native.Mathlib.Omega.{arith}
-use native.Mathlib.Decide.{decLe}
-use lib.ListN.{getD, set, length-set}
-use lib.Seq.{getD-set-same, getD-set-other}
+use lib.ListN.{set}
+use Rattle.meaning.specs.Limits.{height-at}
 use Rattle.meaning.specs.Meter.{Spent}
 use Rattle.meaning.proofs.CostRun.{more}
 use Rattle.meaning.proofs.CostDriver.{driver-fits}
 use Rattle.meaning.proofs.Memo as law
 use Rattle.meaning.proofs.MemoMark.{just-marked}
-use Rattle.store.specs.declared.Charges.{Charges}
 use Rattle.store.specs.Nodes.{treeAt}
 use Rattle.store.proofs.Ready.{small}
-use Rattle.rules.specs.declared.Work.{Work}
-use Rattle.rules.specs.Work.{spentOf}
-use Rattle.memo.specs.declared.Entry.{Entry}
-use Rattle.memo.specs.declared.State.{State}
-use Rattle.memo.specs.Memo.{blank, Sound, Sounds, sounds, Valid, Ended, Small, entry-of, Kept}
+use Rattle.run_state.specs.declared.Work.{Work}
+use Rattle.run_state.specs.declared.Entry.{Entry}
+use Rattle.run_state.specs.declared.State.{State}
+use Rattle.run_state.specs.Work.{spentOf}
+use Rattle.run_state.specs.State.{Sound, Valid}
+use Rattle.run_state.proofs.Entries.{sounds-more}
+use Rattle.memo.specs.Memo.{Ended, Small, entry-of, Kept}
 
 module _ (f s : List ℕ) (b a : Work) (n r nest : ℕ) (h : Ended f s b a n r nest) where
-  entry : (c : Spent) × (spentOf a ≡ more (spentOf b) c) × law.Entry (treeAt f s n) (treeAt f s r) c (65 - nest)
-  entry = law.stored (65 - nest) (treeAt f s n) (treeAt f s r) (spentOf b) (spentOf a) (h .fits) (h .gives)
+  entry : (c : Spent) × (spentOf a ≡ more (spentOf b) c) × law.Entry (treeAt f s n) (treeAt f s r) c (height-at nest)
+  entry = law.stored (height-at nest) (treeAt f s n) (treeAt f s r) (spentOf b) (spentOf a) (h .fits) (h .gives)
 
   units : a .ch .units ≡ b .ch .units + entry .0 .units
   units = ap (λ (x : Spent). x .units) (entry .1)
@@ -33,7 +32,7 @@ module _ (f s : List ℕ) (b a : Work) (n r nest : ℕ) (h : Ended f s b a n r n
 
   pub store-small : a .passes < 65536 → Small b a n r nest
   store-small few =
-      let g = driver-fits (65 - nest) (treeAt f s n) (treeAt f s r) (spentOf b) (spentOf a) (h .fits) (h .gives) in
+      let g = driver-fits (height-at nest) (treeAt f s n) (treeAt f s r) (spentOf b) (spentOf a) (h .fits) (h .gives) in
       record {
         expr = small f s (a .ch) n (h .expr);
         result = small f s (a .ch) r (h .result);
@@ -55,17 +54,6 @@ module _ (f s : List ℕ) (b a : Work) (n r nest : ℕ) (h : Ended f s b a n r n
     repeats = entry .2;
     differs = h .differs;
   }
-
--- one entry more
-sounds-more : {f s : List ℕ} {c : Charges} {m : Bool} {used : ℕ} {memo : List Entry} (e : Entry) → Sounds f s c m used memo → used < 256 → Sound f s c m e → Sounds f s c m (used + 1) (set memo used e)
-sounds-more {f} {s} {c} {m} {used} {memo} e (sounds a b h) l k = sounds (length-set memo used e ∙ a) (omega arith) at
-  where
-    at : (i : ℕ) → i < used + 1 → Sound f s c m (getD (set memo used e) i blank)
-    at i o = go (decLe used i)
-      where
-        go : Dec (used ≤ i) → Sound f s c m (getD (set memo used e) i blank)
-        go (yes q) = let z : i ≡ used = omega arith in rw (z, getD-set-same memo used e blank (omega (arith, a))) k
-        go (no q) = rw (getD-set-other memo used i e blank (λ z. q (omega arith))) (h i (omega arith))
 
 pub kept-so : (f s : List ℕ) (st : State) → Valid f s st → Kept f s st st
 kept-so f s st v = record { work = refl; valid = v }

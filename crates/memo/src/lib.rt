@@ -1,32 +1,17 @@
 // The memo: finished expressions, found by fingerprint and compared by structure, and what a hit charges.
-use rules::Outcome;
-use rules::Work;
-use store::Cell;
+use run_state::Entry;
+use run_state::Outcome;
+use run_state::State;
+use run_state::Work;
+use sexp::Compared;
 use store::Charges;
 ghost use mathlib.Core.Path.{_≡_};
 ghost use Prim.Native.Nat.{_<_, _≤_};
 ghost use Rattle.meaning.specs.Limits.{pass-limit};
-ghost use Rattle.meaning.specs.Tree.{same-bytes};
-ghost use Rattle.store.specs.Cells.{Room, bytesAt};
+ghost use Rattle.store.specs.Cells.{Room};
 ghost use Rattle.store.specs.Store.{Ready};
-ghost use Rattle.memo.specs.Memo.{Sound, Sounds, Valid, AlikeOk, ComparedOk, Matches, Found, AnswerOk, Ended, Small, entry-of, Kept};
-
-// A finished expression: 10 bytes. Its fingerprint stands in the expression's node. Where the work gave the tree back, the result is
-// the expression's own node. The height is a count of nested calls that is known to be enough, not the least one.
-pub struct Entry {
-    pub expr: u16,
-    pub result: u16,
-    pub passes: u16,
-    pub units: u16,
-    pub height: u8,
-}
-
-// What a run has spent, and the memo: its first `used` entries.
-pub struct State {
-    pub w: Work,
-    pub used: usize,
-    pub memo: [Entry; 256],
-}
+ghost use Rattle.run_state.specs.State.{Sound, Sounds, Valid};
+ghost use Rattle.memo.specs.Memo.{AlikeOk, Matches, Found, AnswerOk, Ended, Small, entry-of, Kept};
 
 // What the memo says of a call: the work after it, or nothing.
 pub enum Answer {
@@ -38,12 +23,6 @@ pub enum Answer {
 pub(crate) struct Verdict {
     pub same: bool,
     pub left: usize,
-}
-
-// What two records tell, or the parts that are left to compare.
-pub(crate) enum Compared {
-    Told(bool),
-    Parts(usize, usize, usize, usize),
 }
 
 // Nodes that one lookup looks at, and left parts within left parts, at most.
@@ -64,32 +43,6 @@ fn wide_height(x: u8) -> usize
 }
 
 // ---- comparison
-
-fn same_atoms<'a>(form: &'a [u8], room: &'a [u8], a: usize, b: usize) -> bool
-    requires { ⌜ Room (now room) a × Room (now room) b ⌝ }
-    ensures { λ r. ⌜ r ≡ same-bytes (bytesAt (now (form .entry)) (now (room .entry)) a) (bytesAt (now (form .entry)) (now (room .entry)) b) ⌝ }
-{
-    let x = store::atom_bytes(form, room, a);
-    let y = store::atom_bytes(form, room, b);
-    sexp::same_bytes(x, y)
-}
-
-// Two nodes, their parts aside.
-fn compare_records<'a>(form: &'a [u8], room: &'a [u8], a: usize, b: usize) -> Compared
-    requires { ⌜ Room (now room) a × Room (now room) b ⌝ }
-    ensures { λ r. ⌜ ComparedOk (now (form .entry)) (now (room .entry)) a b r ⌝ }
-{
-    match store::look_node(room, a) {
-        Cell::Pair(al, ar) => match store::look_node(room, b) {
-            Cell::Pair(bl, br) => Compared::Parts(al, ar, bl, br),
-            Cell::Atom => Compared::Told(false),
-        },
-        Cell::Atom => match store::look_node(room, b) {
-            Cell::Pair(_, _) => Compared::Told(false),
-            Cell::Atom => Compared::Told(same_atoms(form, room, a, b)),
-        },
-    }
-}
 
 // Are the trees at x and y the same? At most `looks` nodes are looked at, `deep` left parts deep; where that is not enough, no.
 fn alike<'a>(
@@ -120,7 +73,7 @@ fn alike<'a>(
             };
         }
         left -= 1;
-        match compare_records(form, room, a, b) {
+        match sexp::compare_records(form, room, a, b) {
             Compared::Told(u) => {
                 return Verdict {
                     same: u,

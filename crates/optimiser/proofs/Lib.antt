@@ -1,4 +1,3 @@
-pub mod Refusals
 pub mod Working
 pub mod Bytes
 pub mod OnlyOne

@@ -24,10 +24,10 @@ use Rattle.form.proofs.Bytes.{node-writable}
 use Rattle.patterns.specs.declared.Patterns.{Patterns}
 use Rattle.patterns.specs.Patterns.{Patterned}
 use Rattle.patterns.proofs.Laws.{patterned-grown}
-use Rattle.rules.specs.declared.Outcome.{Outcome}
-use Rattle.rules.specs.declared.Outcome.the-variants.{Same, Changed, Stopped}
-use Rattle.rules.specs.declared.Work.{Work}
-use Rattle.rules.specs.Work.{spentOf, Stopped-by, Says, Did}
+use Rattle.run_state.specs.declared.Outcome.{Outcome}
+use Rattle.run_state.specs.declared.Outcome.the-variants.{Same, Changed, Stopped}
+use Rattle.run_state.specs.declared.Work.{Work}
+use Rattle.run_state.specs.Work.{spentOf, Stopped-by, Says, Did}
 use Rattle.driver_parts.specs.Turns.{fresh-work}
 use Rattle.optimiser.specs.declared.Finished.{Finished}
 use Rattle.optimiser.specs.declared.Finished.the-variants.{Node, Refused}

@@ -1,23 +1,21 @@
--- The steps of `optimise`: a run's work in the room, and the delivery of its result.
+-- The steps of `optimise`: a run's work in the room.
 use Prim.Native.Nat.{ℕ}
 use mathlib.Core.Path.{_≡_}
 use mathlib.Core.List.{List}
 use Rattle.meaning.specs.Meter.{done}
-use Rattle.meaning.specs.Run.{Ran, worked, out-after}
+use Rattle.meaning.specs.Run.{worked}
 use Rattle.store.specs.declared.Charges.{Charges}
 use Rattle.store.specs.Nodes.{treeAt}
 use Rattle.store.specs.Store.{Held}
 use Rattle.form.specs.Writes.{Writable}
 use Rattle.patterns.specs.declared.Patterns.{Patterns}
 use Rattle.patterns.specs.Patterns.{Patterned}
-use Rattle.rules.specs.declared.Outcome.{Outcome}
-use Rattle.rules.specs.declared.Outcome.the-variants.{Same, Changed, Stopped}
-use Rattle.rules.specs.declared.Work.{Work}
-use Rattle.rules.specs.Work.{spentOf, Stopped-by}
+use Rattle.run_state.specs.declared.Outcome.{Outcome}
+use Rattle.run_state.specs.declared.Outcome.the-variants.{Same, Changed, Stopped}
+use Rattle.run_state.specs.declared.Work.{Work}
+use Rattle.run_state.specs.Work.{spentOf, Stopped-by}
 use Rattle.optimiser.specs.declared.Finished.{Finished}
 use Rattle.optimiser.specs.declared.Finished.the-variants.{Node, Refused}
-use Rattle.optimiser.specs.declared.Answer.{Answer}
-use Rattle.optimiser.specs.Optimised.{told, answer-of}
 
 -- a store that has the patterns, and in which nothing is charged yet
 pub record Fresh (f s : List ℕ) (c : Charges) (p : Patterns) : Type 0 where
@@ -40,8 +38,3 @@ pub record WorkedTo (f s : List ℕ) (n : ℕ) (w : Work) : Type 0 where
 unfoldable pub WorkedOk : List ℕ → List ℕ → Finished → Type 0
 WorkedOk f s (Node n w) = WorkedTo f s n w
 WorkedOk f s (Refused r) = Stopped-by r (worked f)
-
--- a run's outcome is told, and its bytes are written
-pub record Delivered (o : Ran) (out out′ : List ℕ) (answer : Answer) : Type 0 where
-  pub tells : told answer ≡ told (answer-of o)
-  pub writes : out′ ≡ out-after o out

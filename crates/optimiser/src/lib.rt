@@ -2,17 +2,19 @@
 use form::Extent;
 use patterns::Patterns;
 use refusals::Refusal;
-use rules::Outcome;
-use rules::Work;
+use run_state::Outcome;
+use run_state::Work;
 use store::Charges;
 use store::Made;
+use store::ROOM;
 ghost use mathlib.Core.Path.{_≡_};
 ghost use Prim.Native.Nat.{_≤_};
 ghost use lib.ListN.{length};
 ghost use Rattle.meaning.specs.Limits.{room-least};
-ghost use Rattle.meaning.specs.Run.{worked, deliver};
-ghost use Rattle.optimiser.specs.Optimised.{Optimised};
-ghost use Rattle.optimiser.specs.Worked.{Fresh, finish-at, WorkedOk, Delivered};
+ghost use Rattle.meaning.specs.Outcome.{ended, Delivers};
+ghost use Rattle.meaning.specs.Run.{worked, deliver-run};
+ghost use Rattle.optimiser.specs.Optimised.{says, Optimised};
+ghost use Rattle.optimiser.specs.Worked.{Fresh, finish-at, WorkedOk};
 
 // What an answer reports: how many bytes were written, and what the run took.
 pub struct Report {
@@ -32,8 +34,6 @@ pub(crate) enum Finished {
     Node(usize, Work),
     Refused(Refusal),
 }
-
-const ROOM: usize = 65536;
 
 // What the driver says of the node n.
 fn finish(w: Work, n: usize) -> Finished
@@ -70,17 +70,16 @@ fn worked(form: &[u8], room: &mut [u8]) -> Finished
     read_and_work(form, room, p, c)
 }
 
-// Writes the finished tree where it fits: measured first, so that refusal 14 leaves the output as it came in.
+// Writes the finished tree where it fits.
 fn deliver<'a>(form: &'a [u8], room: &'a [u8], x: Finished, out: &mut [u8]) -> Answer
     requires { ⌜ WorkedOk (now form) (now room) x ⌝ }
-    ensures { λ r. ⌜ Delivered (deliver (length (now (out .entry))) (worked (now (form .entry)))) (now (out .entry)) (now (out .exit)) r ⌝ }
+    ensures { λ r. ⌜ Delivers says (ended (deliver-run (length (now (out .entry)))) (worked (now (form .entry)))) (now (out .entry)) (now (out .exit)) r ⌝ }
 {
     match x {
         Finished::Refused(e) => Answer::Refused(e),
-        Finished::Node(n, w) => match form::length_node(form, room, n, out.len()) {
+        Finished::Node(n, w) => match form::deliver_node(form, room, n, out) {
             Extent::Over => Answer::Refused(Refusal::OutputShort),
-            Extent::Long(_) => {
-                let k = form::write_node(form, room, n, out);
+            Extent::Long(k) => {
                 let c = w.ch;
                 Answer::Answered(Report {
                     length: k,

@@ -1,12 +1,33 @@
--- Document 01, "Forms on both sides": what is printed for an outcome.
+-- What is printed for an outcome: one line. Document 01, "Forms on both sides".
 use Prim.Native.Nat.{ℕ}
-use mathlib.Core.List.{List, _++_}
+use mathlib.Core.List.{List, [], _∷_, _++_}
+use lib.ListN.{drop}
 use Rattle.refusals.specs.Numbers.{number-of}
-use Rattle.meaning.specs.Run.{Ran, answered, refused}
-use Rattle.lines.specs.Text.{ok-tree, blank-decimal, spent-line, no-number}
+use Rattle.meaning.specs.Outcome.{Outcome, plain, no-match, too-many-names, answered, refused}
+use Rattle.lines.specs.Text.{ok-tree, numbers-line, no-number}
 
--- "`ok`, the tree in hex, passes, units, mark, or `no` and the number"
-unfoldable pub line-of : Ran → List ℕ
-unfolding ok-tree blank-decimal spent-line no-number
-line-of (answered bytes passes units mark) = ok-tree bytes ++ (blank-decimal passes ++ spent-line units mark)
-line-of (refused n) = no-number (number-of n)
+-- `no match`
+unfoldable pub no-match-line : List ℕ
+no-match-line = 110 ∷ 111 ∷ 32 ∷ 109 ∷ 97 ∷ 116 ∷ 99 ∷ 104 ∷ 10 ∷ []
+
+-- `too many names`
+unfoldable pub too-many-line : List ℕ
+too-many-line = 116 ∷ 111 ∷ 111 ∷ 32 ∷ 109 ∷ 97 ∷ 110 ∷ 121 ∷ 32 ∷ 110 ∷ 97 ∷ 109 ∷ 101 ∷ 115 ∷ 10 ∷ []
+
+-- the line of an outcome, where `ok` is that of a plain answer; "or `no` and the number"
+unfoldable pub line-with : (List ℕ → List ℕ → List ℕ) → Outcome → List ℕ
+unfolding no-match-line too-many-line no-number
+line-with ok (answered bytes plain ns) = ok bytes ns
+line-with ok (answered bytes no-match ns) = no-match-line
+line-with ok (answered bytes too-many-names ns) = too-many-line
+line-with ok (refused n) = no-number (number-of n)
+
+-- "`ok`, the tree in hex, passes, units, mark": the tree and the numbers after its length
+unfoldable pub ok-line : List ℕ → List ℕ → List ℕ
+unfolding ok-tree numbers-line
+ok-line bytes ns = ok-tree bytes ++ numbers-line ns
+
+-- the line of an outcome that delivers a tree, and tells its length first
+unfoldable pub line-of : Outcome → List ℕ
+unfolding line-with ok-line
+line-of o = line-with (λ bytes ns. ok-line bytes (drop 1 ns)) o

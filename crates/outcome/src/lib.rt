@@ -1,22 +1,24 @@
-// The optimiser's outcome as one line of text.
+// The outcomes of `optimise`, `evaluate` and `write` as one line of text each.
+use evaluation::EvalAnswer;
+use form::WriteAnswer;
 use optimiser::Answer;
-use optimiser::Report;
 ghost use lib.ListN.{length};
-ghost use Rattle.meaning.specs.Run.{answered, run};
+ghost use Rattle.meaning.specs.Run.{run};
+ghost use Rattle.evaluation.specs.Bytes.{outcome};
+ghost use Rattle.form.specs.Bytes.{write-outcome};
 ghost use Rattle.lines.specs.Text.{Printed};
-ghost use Rattle.outcome.specs.Line.{line-of};
+ghost use Rattle.outcome.specs.Line.{ok-line, line-of};
 
-// Prints an answer after text[..at]: `ok`, the tree, passes, units and mark.
-fn print_answer(tree: &[u8], r: Report, text: &mut [u8], at: usize) -> usize
-    ensures { λ k. ⌜ Printed (line-of (answered (now (tree .entry)) (r .passes) (r .units) (r .mark))) (now (text .entry)) (now (text .exit)) at k ⌝ }
+// Prints an answer after text[..at]: `ok`, the tree, and the numbers that are told behind its length.
+fn print_answer<'a>(tree: &'a [u8], numbers: &'a [usize], text: &mut [u8], at: usize) -> usize
+    ensures { λ k. ⌜ Printed (ok-line (now (tree .entry)) (now (numbers .entry))) (now (text .entry)) (now (text .exit)) at k ⌝ }
 {
     let a = lines::print_ok(text, at, tree);
-    let b = lines::print_number(text, a, r.passes as u64);
-    lines::print_spent(text, b, r.units as u64, r.mark)
+    lines::print_numbers(text, a, numbers)
 }
 
-// Prints a form's outcome after text[..at]: what print_answer prints, or `no` and the refusal's number.
-pub fn print_outcome(
+// Prints what `optimise` makes of a form after text[..at].
+pub fn print_optimised(
     form: &[u8],
     room: &mut [u8],
     out: &mut [u8],
@@ -29,7 +31,47 @@ pub fn print_outcome(
         Answer::Refused(e) => lines::print_no(text, at, refusals::number_of(e)),
         Answer::Answered(r) => {
             let n = r.length;
-            print_answer(&out[..n], r, text, at)
+            let numbers = [r.passes, r.units, r.mark as usize];
+            print_answer(&out[..n], &numbers, text, at)
+        }
+    }
+}
+
+// Prints what `evaluate` makes of two forms.
+pub fn print_evaluated(
+    forms: &[u8],
+    first: usize,
+    room: &mut [u8],
+    out: &mut [u8],
+    text: &mut [u8],
+    at: usize,
+) -> usize
+    ensures { λ k. ⌜ Printed (line-of (outcome (now (forms .entry)) first (length (now (room .entry))) (length (now (out .entry))))) (now (text .entry)) (now (text .exit)) at k ⌝ }
+{
+    match evaluation::evaluate(forms, first, room, out) {
+        EvalAnswer::Refused(e) => lines::print_no(text, at, refusals::number_of(e)),
+        EvalAnswer::Value(n, steps, units) => {
+            let numbers = [steps, units];
+            print_answer(&out[..n], &numbers, text, at)
+        }
+    }
+}
+
+// Prints what `write` makes of a form.
+pub fn print_written(
+    form: &[u8],
+    room: &mut [u8],
+    out: &mut [u8],
+    text: &mut [u8],
+    at: usize,
+) -> usize
+    ensures { λ k. ⌜ Printed (line-of (write-outcome (now (form .entry)) (length (now (room .entry))) (length (now (out .entry))))) (now (text .entry)) (now (text .exit)) at k ⌝ }
+{
+    match form::write(form, room, out) {
+        WriteAnswer::Refused(e) => lines::print_no(text, at, refusals::number_of(e)),
+        WriteAnswer::Written(n, units) => {
+            let numbers = [units];
+            print_answer(&out[..n], &numbers, text, at)
         }
     }
 }

@@ -6,3 +6,4 @@ pub mod SignedLaws
 pub mod CastLaws
 pub mod ComposeLaws
 pub mod WideLaws
+pub mod LengthenLaws

@@ -1,2 +1,3 @@
 pub mod Fours
 pub mod Wide
+pub mod Lengthens

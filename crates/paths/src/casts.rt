@@ -15,7 +15,7 @@ pub struct Number {
 }
 
 // The top bit is set: `number_from_u8` reads the bytes as a number below 0.
-pub fn negative(b: &[u8]) -> bool
+pub(crate) fn negative(b: &[u8]) -> bool
     ensures { λ r. ⌜ r ≡ negative (now (b .entry)) ⌝ }
 {
     if b.len() == 0 {
@@ -88,7 +88,7 @@ pub fn unsigned(b: &[u8]) -> Number
 }
 
 // `bigint_to_bytes_clvm` of a number below 0: a leading ff goes where the next byte has the sign too.
-pub fn shortest_signed(b: &[u8]) -> &[u8]
+pub(crate) fn shortest_signed(b: &[u8]) -> &[u8]
     ensures { λ r. ⌜ now r ≡ shortest-signed (now (b .entry)) ⌝ }
 {
     let mut i: usize = 0;

@@ -1,5 +1,4 @@
 // node_path.rs: paths as numbers.
-ghost use mathlib.Core.Path.{_≡_};
 ghost use Prim.Native.Nat.{_^_, _≤_, _<_};
 ghost use lib.ListN.{length};
 ghost use Rattle.meaning.specs.Number.{number, node-path-index, compose-paths};
@@ -55,8 +54,8 @@ pub fn compose_paths(path_0: Number, path_1: u8) -> Number
     measured(joined(&high, &low, &mask))
 }
 
-// `NodePath::new(..).add(..)` of the path rule.
-pub fn longer(b: &[u8], q: u8) -> Lengthened
+// `NodePath::new(..).add(..)` of an atom of at most 64 bytes.
+pub(crate) fn longer(b: &[u8], q: u8) -> Lengthened
     requires { ⌜ length (now b) ≤ 64 ⌝ }
     ensures { λ r. ⌜ Longer (now (b .entry)) q r ⌝ }
 {

@@ -51,13 +51,13 @@ fn index(b: &[u8])
 }
 
 fn longer(b: &[u8], q: u8)
-    requires { ⌜ length (now b) ≤ 64 ⌝ }
+    requires { ⌜ 1 ≤ q ⌝ }
 {
     say(b"longer ");
     show(b);
     say(b" ");
     say_byte(q);
-    let l = paths::longer(b, q);
+    let l = paths::lengthen(b, q);
     if l.misread {
         say(b" misread");
     }

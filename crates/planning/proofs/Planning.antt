@@ -16,10 +16,10 @@ use Rattle.store.specs.Store.{Ready}
 use Rattle.store.specs.Makers.{Grown, Answered}
 use Rattle.store.proofs.Ready as ready
 use Rattle.store.proofs.Ready.{grown-none, grown-both, grown-ready, grown-tree}
-use Rattle.rules.specs.declared.Outcome.the-variants.{Same}
-use Rattle.rules.specs.declared.Work.{Work}
-use Rattle.rules.specs.Work.{spentOf, with-last, Did}
-use Rattle.rules.proofs.Does.{did-same}
+use Rattle.run_state.specs.declared.Outcome.the-variants.{Same}
+use Rattle.run_state.specs.declared.Work.{Work}
+use Rattle.run_state.specs.Work.{spentOf, with-last, Did}
+use Rattle.run_state.proofs.Does.{did-same}
 use Rattle.driver_parts.specs.Turns.{optimizer, Simple}
 use Rattle.driver_parts.proofs.Saying.{renamed, goes-on}
 use Rattle.driver_parts.proofs.Settling.{not-yes, not-no}

@@ -25,11 +25,11 @@ use Rattle.substitute.specs.declared.Substituted.{Substituted}
 use Rattle.substitute.specs.Sub.{Replaced, SubOk}
 use Rattle.rules.specs.declared.Applied.{Applied}
 use Rattle.rules.specs.declared.Applied.the-variants.{Call, Other}
-use Rattle.rules.specs.declared.Outcome.the-variants.{Same, Stopped}
-use Rattle.rules.specs.declared.Work.{Work}
-use Rattle.rules.specs.Work.{spentOf, with-last}
+use Rattle.run_state.specs.declared.Outcome.the-variants.{Same, Stopped}
+use Rattle.run_state.specs.declared.Work.{Work}
+use Rattle.run_state.specs.Work.{spentOf, with-last}
 use Rattle.rules.specs.Rule.{appliedAt, AppliedIn, AppliedOk}
-use Rattle.rules.proofs.Does.{did-same, did-stopped}
+use Rattle.run_state.proofs.Does.{did-same, did-stopped}
 use Rattle.driver_parts.specs.Turns.{Fine}
 use Rattle.driver_parts.proofs.Wraps.{charge-goes, charge-fails}
 use Rattle.planning.specs.declared.Plan.{Plan}

@@ -1,15 +1,14 @@
 // What the driver does of a rule before it calls itself, and after: on what is spent alone, so that no memo is copied.
 use patterns::Patterns;
 use rules::Applied;
-use rules::Outcome;
-use rules::Work;
+use run_state::Outcome;
+use run_state::Work;
 use substitute::Sub;
-ghost use mathlib.Core.Path.{_≡_};
 ghost use Prim.Native.Nat.{_<_, _≤_};
 ghost use Rattle.meaning.specs.Rules.{settle, var-change-optimizer-cons-eval, children-optimizer};
-ghost use Rattle.store.specs.Nodes.{treeAt};
+ghost use Rattle.store.specs.Nodes.{tree-in};
 ghost use Rattle.store.specs.Store.{Ready};
-ghost use Rattle.rules.specs.Work.{spentOf};
+ghost use Rattle.run_state.specs.Work.{spentOf};
 ghost use Rattle.driver_parts.specs.Turns.{optimizer, Fine};
 ghost use Rattle.planning.specs.Plans.{PlanOk, Settling, Keepable, Listable, KeptBody, KeptList};
 
@@ -44,7 +43,7 @@ fn settle(form: &[u8], room: &mut [u8], w: Work, new: usize, low: bool) -> Plan
         });
     }
     if !sexp::proper_list_node(form, room, new) {
-        return Plan::Worked(rules::with(w, Outcome::Same));
+        return Plan::Worked(run_state::with(w, Outcome::Same));
     }
     Plan::Listed(Body {
         w: w,
@@ -61,13 +60,13 @@ fn var_change_optimizer_cons_eval(
     n: usize,
 ) -> Plan
     requires { ⌜ Fine (now form) (now room) w p n ⌝ }
-    ensures { λ r. ⌜ PlanOk (now (form .entry)) (now (room .entry)) (now (room .exit)) w (treeAt (now (form .entry)) (now (room .entry)) n) (λ next. var-change-optimizer-cons-eval next (treeAt (now (form .entry)) (now (room .entry)) n) (spentOf w)) r ⌝ }
+    ensures { λ r. ⌜ PlanOk (now (form .entry)) (now (room .entry)) (now (room .exit)) w (tree-in form room n) (λ next. var-change-optimizer-cons-eval next (tree-in form room n) (spentOf w)) r ⌝ }
 {
     let ch = w.ch;
     match rules::applied_of(form, room, p, ch, n) {
-        Applied::Other => Plan::Worked(rules::with(w, Outcome::Same)),
+        Applied::Other => Plan::Worked(run_state::with(w, Outcome::Same)),
         Applied::Call(b, a) => match substitute::sub_args(form, room, p, ch, b, a) {
-            Sub::Refused(e) => Plan::Worked(rules::with(w, Outcome::Stopped(e))),
+            Sub::Refused(e) => Plan::Worked(run_state::with(w, Outcome::Stopped(e))),
             Sub::Done(x) => {
                 let g = x.ch;
                 let d = Work {
@@ -112,13 +111,13 @@ pub fn keep_list(form: &[u8], room: &mut [u8], w: Work, r: usize, low: bool) -> 
 
 fn children_optimizer<'a>(form: &'a [u8], room: &'a [u8], w: Work, n: usize) -> Plan
     requires { ⌜ Ready (now form) (now room) (w .ch) n ⌝ }
-    ensures { λ r. ⌜ PlanOk (now (form .entry)) (now (room .entry)) (now (room .entry)) w (treeAt (now (form .entry)) (now (room .entry)) n) (λ next. children-optimizer next (treeAt (now (form .entry)) (now (room .entry)) n) (spentOf w)) r ⌝ }
+    ensures { λ r. ⌜ PlanOk (now (form .entry)) (now (room .entry)) (now (room .entry)) w (tree-in form room n) (λ next. children-optimizer next (tree-in form room n) (spentOf w)) r ⌝ }
 {
     if rules::is_quote_node(form, room, n) {
-        return Plan::Worked(rules::with(w, Outcome::Same));
+        return Plan::Worked(run_state::with(w, Outcome::Same));
     }
     if !sexp::proper_list_node(form, room, n) {
-        return Plan::Worked(rules::with(w, Outcome::Same));
+        return Plan::Worked(run_state::with(w, Outcome::Same));
     }
     Plan::Elements
 }
@@ -127,7 +126,7 @@ fn children_optimizer<'a>(form: &'a [u8], room: &'a [u8], w: Work, n: usize) -> 
 
 pub fn start_rule(form: &[u8], room: &mut [u8], p: Patterns, w: Work, n: usize, rule: usize) -> Plan
     requires { ⌜ Fine (now form) (now room) w p n × (0 < rule) × (rule ≤ 8) ⌝ }
-    ensures { λ r. ⌜ PlanOk (now (form .entry)) (now (room .entry)) (now (room .exit)) w (treeAt (now (form .entry)) (now (room .entry)) n) (λ next. optimizer next rule (treeAt (now (form .entry)) (now (room .entry)) n) (spentOf w)) r ⌝ }
+    ensures { λ r. ⌜ PlanOk (now (form .entry)) (now (room .entry)) (now (room .exit)) w (tree-in form room n) (λ next. optimizer next rule (tree-in form room n) (spentOf w)) r ⌝ }
 {
     if rule == 4 {
         return var_change_optimizer_cons_eval(form, room, p, w, n);

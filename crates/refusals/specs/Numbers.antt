@@ -1,8 +1,10 @@
--- Document 01, "Numbers that bound a run": the number of each refusal.
+-- Document 01, "Numbers that bound a run": the number of each refusal, and what it leaves of the room.
 use Prim.Native.Nat.{ℕ}
+use mathlib.Core.Bool.{Bool, true, false}
 use Rattle.refusals.specs.declared.Refusal.{Refusal}
 use Rattle.refusals.specs.declared.Refusal.the-variants.{RoomSmall, FormLong, EndsEarly, BadPrefix, AtomLong, BytesAfter, UnitsOut, Fails, NoOperator, StepsOut, PathLong, PassesOut, TooDeep, OutputShort}
 
+-- 01's table
 abbrev pub number-of : Refusal → ℕ
 number-of RoomSmall = 1
 number-of FormLong = 2
@@ -18,3 +20,20 @@ number-of PathLong = 11
 number-of PassesOut = 12
 number-of TooDeep = 13
 number-of OutputShort = 14
+
+-- "Lent working room is all zero after any return but refusal 1, which leaves it unchanged": whether a refusal comes before the room is touched
+abbrev pub leaves-room : Refusal → Bool
+leaves-room RoomSmall = true
+leaves-room FormLong = false
+leaves-room EndsEarly = false
+leaves-room BadPrefix = false
+leaves-room AtomLong = false
+leaves-room BytesAfter = false
+leaves-room UnitsOut = false
+leaves-room Fails = false
+leaves-room NoOperator = false
+leaves-room StepsOut = false
+leaves-room PathLong = false
+leaves-room PassesOut = false
+leaves-room TooDeep = false
+leaves-room OutputShort = false

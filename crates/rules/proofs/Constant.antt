@@ -10,7 +10,7 @@ use Rattle.meaning.specs.Limits.{pair-cost}
 use Rattle.meaning.specs.Meter.{Out, done, stop, Steps, Spent, W, _>>_, give, charge, within}
 use Rattle.meaning.specs.Evaluate.{evaluate}
 use Rattle.meaning.specs.Constant.{seems-constant}
-use Rattle.meaning.specs.Rules.{constant-optimizer}
+use Rattle.meaning.specs.Rules.{worked-out, constant-optimizer}
 use Rattle.meaning.proofs.MeterLaws.{bind-at}
 use Rattle.meaning.proofs.BindLaws.{bind-stop}
 use Rattle.meaning.proofs.RuleDiffers.{quote-differs, is-worked-out, constant-gives, constant-same}
@@ -28,12 +28,11 @@ use Rattle.evaluator.specs.declared.Meter.{Meter}
 use Rattle.evaluator.specs.declared.Valued.{Valued}
 use Rattle.evaluator.specs.declared.Valued.the-variants.{Value, Refused}
 use Rattle.evaluator.specs.Values.{state, stopped, Given, ValuedOk}
-use Rattle.rules.specs.declared.Outcome.the-variants.{Same, Stopped}
-use Rattle.rules.specs.declared.Work.{Work}
-use Rattle.rules.specs.Work.{spentOf, with-last, work-made, Did}
-use Rattle.rules.specs.Rule.{worked-out}
-use Rattle.rules.proofs.Does.{did-same, did-stopped, did-after}
-use Rattle.rules.proofs.Charged.{did-made}
+use Rattle.run_state.specs.declared.Outcome.the-variants.{Same, Stopped}
+use Rattle.run_state.specs.declared.Work.{Work}
+use Rattle.run_state.specs.Work.{spentOf, with-last, work-made, Did}
+use Rattle.run_state.proofs.Does.{did-same, did-stopped, did-after}
+use Rattle.run_state.proofs.Charged.{did-made}
 
 -- ---- the test for a quote
 
@@ -159,9 +158,7 @@ module _ (f s : List ℕ) (w q : Work) (n : ℕ) (r : Ready f s (w .ch) n) where
 
     pub constant-yes : (s₂ : List ℕ) (a d : Bool) → Did f s₁ s₂ w (treeAt f s₁ n) (worked-out (treeAt f s₁ n) (spentOf w)) q → b ≡ true → a ≡ is-quote (treeAt f s n) → a ≡ false → d ≡ is-nil (treeAt f s n) → d ≡ false
         → Did f s s₂ w (treeAt f s n) (constant-optimizer (treeAt f s n) (spentOf w)) q
-    unfolding worked-out
     constant-yes s₂ a d k t ea za ed zd =
         let y : is-worked-out (treeAt f s n) ≡ true = test-yes (treeAt f s n) (sym ea ∙ za) (sym ed ∙ zd) (sym (h .answer) ∙ t) in
-        let z : constant-optimizer (treeAt f s n) (spentOf w) ≡ worked-out (treeAt f s n) (spentOf w) = constant-gives (treeAt f s n) y (spentOf w) in
         let k′ : Did f s₁ s₂ w (treeAt f s n) (worked-out (treeAt f s n) (spentOf w)) q = rw (grown-tree (h .grown) r) at k in
-        rw z (did-after f s s₁ s₂ w _ _ (h .grown) q k′)
+        rw (constant-gives (treeAt f s n) y (spentOf w)) (did-after f s s₁ s₂ w _ _ (h .grown) q k′)

@@ -28,8 +28,8 @@ use Rattle.store.specs.Store.{Held, Ready}
 use Rattle.store.specs.Makers.{Grown, MadeOk}
 use Rattle.store.proofs.Ready.{room, grown-none, grown-ready, grown-tree, look-pair, look-atom}
 use Rattle.paths.specs.declared.node_path.Lengthened.{Lengthened}
+use Rattle.paths.specs.Lengthens.{Lengthens}
 use Rattle.paths.proofs.ShortestLaws.{held-len}
-use Rattle.lengthen.specs.Lengthens.{Lengthens}
 use Rattle.pattern.specs.declared.Bindings.{Bindings}
 use Rattle.pattern.specs.declared.Match.{Match}
 use Rattle.pattern.specs.declared.Match.the-variants.{Matched, NoMatch, TooManyNames}
@@ -39,12 +39,12 @@ use Rattle.pattern.specs.Bound.{bindingsAt, Named, MatchOk, gotAt, GotIn, GotOk
 use Rattle.patterns.specs.declared.Patterns.{Patterns}
 use Rattle.patterns.specs.Patterns.{Patterned}
 use Rattle.patterns.proofs.Laws.{patterned-grown}
-use Rattle.rules.specs.declared.Outcome.the-variants.{Same, Stopped}
-use Rattle.rules.specs.declared.Work.{Work}
-use Rattle.rules.specs.Work.{spentOf, with-last, marked-work, work-made, Did}
+use Rattle.run_state.specs.declared.Outcome.the-variants.{Same, Stopped}
+use Rattle.run_state.specs.declared.Work.{Work}
+use Rattle.run_state.specs.Work.{spentOf, with-last, marked-work, work-made, Did}
 use Rattle.rules.specs.Rule.{PathAsks, LongerAsks}
-use Rattle.rules.proofs.Does.{did-same, did-stopped, did-after}
-use Rattle.rules.proofs.Charged.{did-made}
+use Rattle.run_state.proofs.Does.{did-same, did-stopped, did-after}
+use Rattle.run_state.proofs.Charged.{did-made}
 use Rattle.rules.proofs.Found.{match-bindings, match-none, match-many, at-pattern}
 
 -- ---- the atom

@@ -26,13 +26,13 @@ use Rattle.pattern.specs.declared.Got.the-variants.{At, Nothing}
 use Rattle.pattern.specs.Bound.{bindingsAt, MatchOk, gotAt, GotIn, GotOk}
 use Rattle.patterns.specs.Patterns.{Shows}
 use Rattle.patterns.proofs.Laws.{shows-grown}
-use Rattle.rules.specs.declared.Outcome.the-variants.{Same, Changed}
-use Rattle.rules.specs.declared.Work.{Work}
+use Rattle.run_state.specs.declared.Outcome.the-variants.{Same, Changed}
+use Rattle.run_state.specs.declared.Work.{Work}
 use Rattle.rules.specs.declared.Applied.{Applied}
 use Rattle.rules.specs.declared.Applied.the-variants.{Call, Other}
-use Rattle.rules.specs.Work.{spentOf, with-last, Did}
+use Rattle.run_state.specs.Work.{spentOf, with-last, Did}
 use Rattle.rules.specs.Rule.{both-of, appliedAt, AppliedIn, AppliedOk}
-use Rattle.rules.proofs.Does.{did-same, did-changed}
+use Rattle.run_state.proofs.Does.{did-same, did-changed}
 use Rattle.rules.proofs.Found.{found-tree, found-ready, found-none, match-bindings, match-none, match-many, at-pattern}
 
 -- ---- a rule that only rewrites: the tree itself, or another

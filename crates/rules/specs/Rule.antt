@@ -1,13 +1,10 @@
 -- What the rules' own functions answer and ask.
-use Prim.Native.Nat.{ℕ, _+_}
+use Prim.Native.Nat.{ℕ}
 use mathlib.Core.Path.{_≡_}
 use mathlib.Core.List.{List}
 use mathlib.Core.Bool.{false}
 use mathlib.Core.Option.{some}
-use Rattle.meaning.specs.Tree.{Tree, atom, nil, equal-to, quote}
-use Rattle.meaning.specs.Limits.{pair-cost}
-use Rattle.meaning.specs.Meter.{W, _>>=_, _>>_, give, charge, within}
-use Rattle.meaning.specs.Evaluate.{evaluate}
+use Rattle.meaning.specs.Tree.{Tree, atom, equal-to}
 use Rattle.meaning.specs.Rules.{applied, not-applied}
 use Rattle.meaning.specs.Rules.{Applied as Rules·Applied}
 use Rattle.store.specs.declared.Charges.{Charges}
@@ -19,15 +16,6 @@ use Rattle.pattern.specs.declared.Got.the-variants.{At, Nothing}
 use Rattle.pattern.specs.Bound.{gotAt, GotIn}
 use Rattle.rules.specs.declared.Applied.{Applied}
 use Rattle.rules.specs.declared.Applied.the-variants.{Call, Other}
-
--- ---- 2.: the value under nil, quoted: where the rule's test holds
-
-unfoldable pub worked-out : Tree → W Tree
-unfolding within evaluate charge give _>>=_ _>>_ quote
-worked-out r = do
-  v ← within (evaluate r nil)
-  charge (5 + pair-cost)
-  give (quote v)
 
 -- ---- 3.: the S and the ARGS, as nodes
 

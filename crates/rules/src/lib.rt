@@ -5,9 +5,10 @@ use pattern::Got;
 use pattern::Match;
 use patterns::Patterns;
 use refusals::Refusal;
+use run_state::Outcome;
+use run_state::Work;
 use store::Cell;
 use store::Charges;
-use store::Made;
 ghost use mathlib.Core.Path.{_≡_};
 ghost use mathlib.Core.List.{[]};
 ghost use mathlib.Core.Bool.{false};
@@ -15,88 +16,28 @@ ghost use Prim.Native.Nat.{_≤_};
 ghost use Rattle.meaning.specs.Match.{match-sexp, got};
 ghost use Rattle.meaning.specs.Tree.{is-quote};
 ghost use Rattle.meaning.specs.Meter.{give};
-ghost use Rattle.meaning.specs.Rules.{applied-of, cons-optimizer, constant-optimizer, cons-q-a-optimizer, atom-name, atom-pattern, path-to, misread, longer, path-optimizer, quote-null-optimizer, apply-null-optimizer};
+ghost use Rattle.meaning.specs.Rules.{applied-of, cons-optimizer, worked-out, constant-optimizer, cons-q-a-optimizer, atom-name, atom-pattern, path-to, misread, longer, path-optimizer, quote-null-optimizer, apply-null-optimizer};
 ghost use Rattle.meaning.specs.Number.{node-path-index, compose-paths, bytes-of};
 ghost use Rattle.store.specs.Cells.{Room, bytesAt};
-ghost use Rattle.store.specs.Nodes.{treeAt};
+ghost use Rattle.store.specs.Nodes.{treeAt, tree-in};
 ghost use Rattle.store.specs.Store.{Ready};
 ghost use Rattle.pattern.specs.Bound.{gotAt, Named};
 ghost use Rattle.patterns.specs.Patterns.{Patterned};
-ghost use Rattle.rules.specs.Work.{spentOf, with-last, marked-work, work-made, Did};
-ghost use Rattle.rules.specs.Rule.{worked-out, both-of, AppliedOk, PathAsks, LongerAsks};
-
-pub enum Outcome {
-    Same,
-    Changed(usize),
-    Stopped(Refusal),
-}
-
-// What a run has spent, whether it is marked, and what the last piece of work said.
-pub struct Work {
-    pub ch: Charges,
-    pub passes: usize,
-    pub mark: bool,
-    pub last: Outcome,
-}
-
-// The same work, which now says o.
-pub fn with(w: Work, o: Outcome) -> Work
-    ensures { λ r. ⌜ r ≡ with-last w o ⌝ }
-{
-    let c = w.ch;
-    Work {
-        ch: c,
-        passes: w.passes,
-        mark: w.mark,
-        last: o,
-    }
-}
-
-// The same work, marked if off: a mark is never taken away.
-pub fn marked(w: Work, off: bool) -> Work
-    ensures { λ r. ⌜ r ≡ marked-work w off ⌝ }
-{
-    let c = w.ch;
-    let o = w.last;
-    if off {
-        Work {
-            ch: c,
-            passes: w.passes,
-            mark: true,
-            last: o,
-        }
-    } else {
-        w
-    }
-}
-
-// What a maker answered, as work: changed to its node, or stopped.
-pub fn put(w: Work, m: Made) -> Work
-    ensures { λ r. ⌜ r ≡ work-made w m ⌝ }
-{
-    match m {
-        Made::Refused(e) => with(w, Outcome::Stopped(e)),
-        Made::Node(n, c) => Work {
-            ch: c,
-            passes: w.passes,
-            mark: w.mark,
-            last: Outcome::Changed(n),
-        },
-    }
-}
+ghost use Rattle.run_state.specs.Work.{spentOf, Did};
+ghost use Rattle.rules.specs.Rule.{both-of, AppliedOk, PathAsks, LongerAsks};
 
 // ---- 1. `cons_optimizer`: (f (c A B)) gives A, (r (c A B)) gives B
 
 pub fn cons_optimizer(form: &[u8], room: &mut [u8], p: Patterns, w: Work, n: usize) -> Work
     requires { ⌜ Ready (now form) (now room) (w .ch) n × Patterned (now form) (now room) (w .ch) p ⌝ }
-    ensures { λ q. ⌜ Did (now (form .entry)) (now (room .entry)) (now (room .exit)) w (treeAt (now (form .entry)) (now (room .entry)) n) (give (cons-optimizer (treeAt (now (form .entry)) (now (room .entry)) n)) (spentOf w)) q ⌝ }
+    ensures { λ q. ⌜ Did (now (form .entry)) (now (room .entry)) (now (room .exit)) w (tree-in form room n) (give (cons-optimizer (tree-in form room n)) (spentOf w)) q ⌝ }
 {
     let ch = w.ch;
     match pattern::got_node(form, room, ch, p.first_cons, n, b"first") {
-        Got::At(a) => with(w, Outcome::Changed(a)),
+        Got::At(a) => run_state::with(w, Outcome::Changed(a)),
         Got::Nothing => match pattern::got_node(form, room, ch, p.rest_cons, n, b"rest") {
-            Got::At(b) => with(w, Outcome::Changed(b)),
-            Got::Nothing => with(w, Outcome::Same),
+            Got::At(b) => run_state::with(w, Outcome::Changed(b)),
+            Got::Nothing => run_state::with(w, Outcome::Same),
         },
     }
 }
@@ -106,7 +47,7 @@ pub fn cons_optimizer(form: &[u8], room: &mut [u8], p: Patterns, w: Work, n: usi
 // A pair headed by the byte 1.
 pub fn is_quote_node<'a>(form: &'a [u8], room: &'a [u8], n: usize) -> bool
     requires { ⌜ Room (now room) n ⌝ }
-    ensures { λ r. ⌜ r ≡ is-quote (treeAt (now (form .entry)) (now (room .entry)) n) ⌝ }
+    ensures { λ r. ⌜ r ≡ is-quote (tree-in form room n) ⌝ }
 {
     match store::look_node(room, n) {
         Cell::Atom => false,
@@ -117,34 +58,34 @@ pub fn is_quote_node<'a>(form: &'a [u8], room: &'a [u8], n: usize) -> bool
 // The value under nil, quoted.
 fn quoted_value(form: &[u8], room: &mut [u8], w: Work, n: usize) -> Work
     requires { ⌜ Ready (now form) (now room) (w .ch) n × (is-quote (treeAt (now form) (now room) n) ≡ false) ⌝ }
-    ensures { λ q. ⌜ Did (now (form .entry)) (now (room .entry)) (now (room .exit)) w (treeAt (now (form .entry)) (now (room .entry)) n) (worked-out (treeAt (now (form .entry)) (now (room .entry)) n) (spentOf w)) q ⌝ }
+    ensures { λ q. ⌜ Did (now (form .entry)) (now (room .entry)) (now (room .exit)) w (tree-in form room n) (worked-out (tree-in form room n) (spentOf w)) q ⌝ }
 {
     let ch = w.ch;
     let m = Meter { steps: 0, ch: ch };
     match evaluator::eval_node(form, room, m, n, 0) {
-        Valued::Refused(e) => with(w, Outcome::Stopped(e)),
+        Valued::Refused(e) => run_state::with(w, Outcome::Stopped(e)),
         Valued::Value(v, t) => {
             let c = t.ch;
-            put(w, sexp::quote_node(form, room, c, v))
+            run_state::put(w, sexp::quote_node(form, room, c, v))
         }
     }
 }
 
 pub fn constant_optimizer(form: &[u8], room: &mut [u8], w: Work, n: usize) -> Work
     requires { ⌜ Ready (now form) (now room) (w .ch) n ⌝ }
-    ensures { λ q. ⌜ Did (now (form .entry)) (now (room .entry)) (now (room .exit)) w (treeAt (now (form .entry)) (now (room .entry)) n) (constant-optimizer (treeAt (now (form .entry)) (now (room .entry)) n) (spentOf w)) q ⌝ }
+    ensures { λ q. ⌜ Did (now (form .entry)) (now (room .entry)) (now (room .exit)) w (tree-in form room n) (constant-optimizer (tree-in form room n) (spentOf w)) q ⌝ }
 {
     let ch = w.ch;
     if is_quote_node(form, room, n) {
-        return with(w, Outcome::Same);
+        return run_state::with(w, Outcome::Same);
     }
     if sexp::is_nil_node(form, room, n) {
-        return with(w, Outcome::Same);
+        return run_state::with(w, Outcome::Same);
     }
     if seems::seems_constant(form, room, ch, n) {
         quoted_value(form, room, w, n)
     } else {
-        with(w, Outcome::Same)
+        run_state::with(w, Outcome::Same)
     }
 }
 
@@ -170,7 +111,7 @@ fn both_got(s: Got, a: Got) -> Applied
 // The S and the ARGS of (a (q . S) ARGS).
 pub fn applied_of(form: &[u8], room: &mut [u8], p: Patterns, ch: Charges, n: usize) -> Applied
     requires { ⌜ Ready (now form) (now room) ch n × Patterned (now form) (now room) ch p ⌝ }
-    ensures { λ a. ⌜ AppliedOk (now (form .entry)) (now (room .entry)) (now (room .exit)) ch a (applied-of (treeAt (now (form .entry)) (now (room .entry)) n)) ⌝ }
+    ensures { λ a. ⌜ AppliedOk (now (form .entry)) (now (room .entry)) (now (room .exit)) ch a (applied-of (tree-in form room n)) ⌝ }
 {
     match pattern::matched_node(form, room, ch, p.apply, n) {
         Match::Matched(ks) => {
@@ -185,18 +126,18 @@ pub fn applied_of(form: &[u8], room: &mut [u8], p: Patterns, ch: Charges, n: usi
 
 pub fn cons_q_a_optimizer(form: &[u8], room: &mut [u8], p: Patterns, w: Work, n: usize) -> Work
     requires { ⌜ Ready (now form) (now room) (w .ch) n × Patterned (now form) (now room) (w .ch) p ⌝ }
-    ensures { λ q. ⌜ Did (now (form .entry)) (now (room .entry)) (now (room .exit)) w (treeAt (now (form .entry)) (now (room .entry)) n) (give (cons-q-a-optimizer (treeAt (now (form .entry)) (now (room .entry)) n)) (spentOf w)) q ⌝ }
+    ensures { λ q. ⌜ Did (now (form .entry)) (now (room .entry)) (now (room .exit)) w (tree-in form room n) (give (cons-q-a-optimizer (tree-in form room n)) (spentOf w)) q ⌝ }
 {
     let ch = w.ch;
     match applied_of(form, room, p, ch, n) {
         Applied::Call(s, a) => {
             if sexp::is_byte_node(form, room, a, 1) {
-                with(w, Outcome::Changed(s))
+                run_state::with(w, Outcome::Changed(s))
             } else {
-                with(w, Outcome::Same)
+                run_state::with(w, Outcome::Same)
             }
         }
-        Applied::Other => with(w, Outcome::Same),
+        Applied::Other => run_state::with(w, Outcome::Same),
     }
 }
 
@@ -205,30 +146,30 @@ pub fn cons_q_a_optimizer(form: &[u8], room: &mut [u8], p: Patterns, w: Work, n:
 // The atom a of n is a path, and goes on by q. It is refused if it is too long, before it is charged.
 fn path_node(form: &[u8], room: &mut [u8], w: Work, n: usize, a: usize, q: u8) -> Work
     requires { ⌜ PathAsks (now form) (now room) (w .ch) n × Named (now form) (now room) (w .ch) a × (1 ≤ q) ⌝ }
-    ensures { λ r. ⌜ Did (now (form .entry)) (now (room .entry)) (now (room .exit)) w (treeAt (now (form .entry)) (now (room .entry)) n) (path-to (bytes-of (compose-paths (node-path-index (bytesAt (now (form .entry)) (now (room .entry)) a)) q)) (misread (bytesAt (now (form .entry)) (now (room .entry)) a)) (spentOf w)) r ⌝ }
+    ensures { λ r. ⌜ Did (now (form .entry)) (now (room .entry)) (now (room .exit)) w (tree-in form room n) (path-to (bytes-of (compose-paths (node-path-index (bytesAt (now (form .entry)) (now (room .entry)) a)) q)) (misread (bytesAt (now (form .entry)) (now (room .entry)) a)) (spentOf w)) r ⌝ }
 {
-    let l = lengthen::longer(store::atom_bytes(form, room, a), q);
+    let l = paths::lengthen(store::atom_bytes(form, room, a), q);
     let p = l.path;
     let len = p.len;
     if 64 < len {
-        return with(w, Outcome::Stopped(Refusal::PathLong));
+        return run_state::with(w, Outcome::Stopped(Refusal::PathLong));
     }
     let bytes = p.bytes;
     let from = 65 - len;
     let ch = w.ch;
     let m = store::atom_node(form, room, ch, &bytes[from..]);
-    put(marked(w, l.misread), m)
+    run_state::put(run_state::marked(w, l.misread), m)
 }
 
 // What became of the name `atom`: only an atom is a path.
 fn longer_node(form: &[u8], room: &mut [u8], w: Work, n: usize, g: Got, q: u8) -> Work
     requires { ⌜ LongerAsks (now form) (now room) (w .ch) n g × (1 ≤ q) ⌝ }
-    ensures { λ r. ⌜ Did (now (form .entry)) (now (room .entry)) (now (room .exit)) w (treeAt (now (form .entry)) (now (room .entry)) n) (longer (treeAt (now (form .entry)) (now (room .entry)) n) (gotAt (now (form .entry)) (now (room .entry)) g) q (spentOf w)) r ⌝ }
+    ensures { λ r. ⌜ Did (now (form .entry)) (now (room .entry)) (now (room .exit)) w (tree-in form room n) (longer (tree-in form room n) (gotAt (now (form .entry)) (now (room .entry)) g) q (spentOf w)) r ⌝ }
 {
     match g {
-        Got::Nothing => with(w, Outcome::Same),
+        Got::Nothing => run_state::with(w, Outcome::Same),
         Got::At(a) => match store::look_node(room, a) {
-            Cell::Pair(_, _) => with(w, Outcome::Same),
+            Cell::Pair(_, _) => run_state::with(w, Outcome::Same),
             Cell::Atom => path_node(form, room, w, n, a, q),
         },
     }
@@ -237,7 +178,7 @@ fn longer_node(form: &[u8], room: &mut [u8], w: Work, n: usize, g: Got, q: u8) -
 // (r N)
 fn rest_path(form: &[u8], room: &mut [u8], p: Patterns, w: Work, n: usize) -> Work
     requires { ⌜ Ready (now form) (now room) (w .ch) n × Patterned (now form) (now room) (w .ch) p ⌝ }
-    ensures { λ r. ⌜ Did (now (form .entry)) (now (room .entry)) (now (room .exit)) w (treeAt (now (form .entry)) (now (room .entry)) n) (longer (treeAt (now (form .entry)) (now (room .entry)) n) (got atom-name (match-sexp (atom-pattern 6) (treeAt (now (form .entry)) (now (room .entry)) n) [])) 3 (spentOf w)) r ⌝ }
+    ensures { λ r. ⌜ Did (now (form .entry)) (now (room .entry)) (now (room .exit)) w (tree-in form room n) (longer (tree-in form room n) (got atom-name (match-sexp (atom-pattern 6) (tree-in form room n) [])) 3 (spentOf w)) r ⌝ }
 {
     let ch = w.ch;
     let g = pattern::got_node(form, room, ch, p.rest_atom, n, b"atom");
@@ -246,7 +187,7 @@ fn rest_path(form: &[u8], room: &mut [u8], p: Patterns, w: Work, n: usize) -> Wo
 
 pub fn path_optimizer(form: &[u8], room: &mut [u8], p: Patterns, w: Work, n: usize) -> Work
     requires { ⌜ Ready (now form) (now room) (w .ch) n × Patterned (now form) (now room) (w .ch) p ⌝ }
-    ensures { λ q. ⌜ Did (now (form .entry)) (now (room .entry)) (now (room .exit)) w (treeAt (now (form .entry)) (now (room .entry)) n) (path-optimizer (treeAt (now (form .entry)) (now (room .entry)) n) (spentOf w)) q ⌝ }
+    ensures { λ q. ⌜ Did (now (form .entry)) (now (room .entry)) (now (room .exit)) w (tree-in form room n) (path-optimizer (tree-in form room n) (spentOf w)) q ⌝ }
 {
     let ch = w.ch;
     match pattern::matched_node(form, room, ch, p.first_atom, n) {
@@ -263,24 +204,24 @@ pub fn path_optimizer(form: &[u8], room: &mut [u8], p: Patterns, w: Work, n: usi
 
 pub fn quote_null_optimizer(form: &[u8], room: &mut [u8], p: Patterns, w: Work, n: usize) -> Work
     requires { ⌜ Ready (now form) (now room) (w .ch) n × Patterned (now form) (now room) (w .ch) p ⌝ }
-    ensures { λ q. ⌜ Did (now (form .entry)) (now (room .entry)) (now (room .exit)) w (treeAt (now (form .entry)) (now (room .entry)) n) (give (quote-null-optimizer (treeAt (now (form .entry)) (now (room .entry)) n)) (spentOf w)) q ⌝ }
+    ensures { λ q. ⌜ Did (now (form .entry)) (now (room .entry)) (now (room .exit)) w (tree-in form room n) (give (quote-null-optimizer (tree-in form room n)) (spentOf w)) q ⌝ }
 {
     let ch = w.ch;
     match pattern::matched_node(form, room, ch, p.quote_nil, n) {
-        Match::Matched(_) => with(w, Outcome::Changed(0)),
-        Match::NoMatch => with(w, Outcome::Same),
-        Match::TooManyNames => with(w, Outcome::Same),
+        Match::Matched(_) => run_state::with(w, Outcome::Changed(0)),
+        Match::NoMatch => run_state::with(w, Outcome::Same),
+        Match::TooManyNames => run_state::with(w, Outcome::Same),
     }
 }
 
 pub fn apply_null_optimizer(form: &[u8], room: &mut [u8], p: Patterns, w: Work, n: usize) -> Work
     requires { ⌜ Ready (now form) (now room) (w .ch) n × Patterned (now form) (now room) (w .ch) p ⌝ }
-    ensures { λ q. ⌜ Did (now (form .entry)) (now (room .entry)) (now (room .exit)) w (treeAt (now (form .entry)) (now (room .entry)) n) (give (apply-null-optimizer (treeAt (now (form .entry)) (now (room .entry)) n)) (spentOf w)) q ⌝ }
+    ensures { λ q. ⌜ Did (now (form .entry)) (now (room .entry)) (now (room .exit)) w (tree-in form room n) (give (apply-null-optimizer (tree-in form room n)) (spentOf w)) q ⌝ }
 {
     let ch = w.ch;
     match pattern::matched_node(form, room, ch, p.apply_nil, n) {
-        Match::Matched(_) => with(w, Outcome::Changed(0)),
-        Match::NoMatch => with(w, Outcome::Same),
-        Match::TooManyNames => with(w, Outcome::Same),
+        Match::Matched(_) => run_state::with(w, Outcome::Changed(0)),
+        Match::NoMatch => run_state::with(w, Outcome::Same),
+        Match::TooManyNames => run_state::with(w, Outcome::Same),
     }
 }

@@ -132,9 +132,18 @@ module _ (f s : List ℕ) (a b : ℕ) (p q : Cell) (ep : p ≡ cellAt s a) (eq :
   unfolding ComparedOk
   told-parts l r m n pp pq = record { one = sym ep ∙ pp; other = sym eq ∙ pq }
 
-pub told-prints : (f s : List ℕ) (a b : ℕ) (u : Bool) → u ≡ not (eqb (printOf (treeAt f s a)) (printOf (treeAt f s b))) → u ≡ true → ComparedOk f s a b (Told false)
+-- ---- equal_records
+
+pair-not-atom : (l r : Tree) (b : List ℕ) → pair l r ≡ atom b → ⊥
+pair-not-atom l r b e = let z : _≡_ {A = ℕ} 0 1 = cc in omega arith
+
+pub told : (f s : List ℕ) (c : Charges) (a b : ℕ) (z : Compared) (u : Bool) → z ≡ Told u → ComparedOk f s a b z → Ready f s c a → Answered f s s c u (equal-to (treeAt f s a) (treeAt f s b))
 unfolding ComparedOk
-told-prints f s a b u eu o = go (equal-to (treeAt f s a) (treeAt f s b)) refl
+told f s c a b z u e k ra = record { answer = rw e at k; grown = grown-none f s c (ra .held) }
+
+-- trees whose fingerprints differ
+pub prints-tell : (f s : List ℕ) (c : Charges) (a b : ℕ) (u : Bool) → u ≡ not (eqb (printOf (treeAt f s a)) (printOf (treeAt f s b))) → u ≡ true → Ready f s c a → Answered f s s c false (equal-to (treeAt f s a) (treeAt f s b))
+prints-tell f s c a b u eu o ra = record { answer = go (equal-to (treeAt f s a) (treeAt f s b)) refl; grown = grown-none f s c (ra .held) }
   where
     n : eqb (printOf (treeAt f s a)) (printOf (treeAt f s b)) ≡ false
     n = not-true _ (sym eu ∙ o)
@@ -144,15 +153,6 @@ told-prints f s a b u eu o = go (equal-to (treeAt f s a) (treeAt f s b)) refl
         let p : eqb (printOf (treeAt f s a)) (printOf (treeAt f s b)) ≡ true = eq-eqb _ _ (ap printOf (equal-to-sound (treeAt f s a) (treeAt f s b) e)) in
         sym n ∙ p
     go false e = refl
-
--- ---- equal_records
-
-pair-not-atom : (l r : Tree) (b : List ℕ) → pair l r ≡ atom b → ⊥
-pair-not-atom l r b e = let z : _≡_ {A = ℕ} 0 1 = cc in omega arith
-
-pub told : (f s : List ℕ) (c : Charges) (a b : ℕ) (z : Compared) (u : Bool) → z ≡ Told u → ComparedOk f s a b z → Ready f s c a → Answered f s s c u (equal-to (treeAt f s a) (treeAt f s b))
-unfolding ComparedOk
-told f s c a b z u e k ra = record { answer = rw e at k; grown = grown-none f s c (ra .held) }
 
 module _ (f s : List ℕ) (a b l r m n : ℕ) (z : Compared) (e : z ≡ Parts l r m n) (k : ComparedOk f s a b z) where
   pairs : BothPairs s a b l r m n

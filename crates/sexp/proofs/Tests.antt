@@ -15,9 +15,7 @@ use Rattle.store.specs.Cells.{cellAt, bytesAt, Room}
 use Rattle.store.specs.Nodes.{treeAt}
 use Rattle.store.proofs.Ready.{look-atom}
 use Rattle.store.proofs.Trees.{cell-below, tree-pair}
-use Rattle.sexp.specs.declared.First.the-variants.{Node, NotPair}
 use Rattle.sexp.specs.Tests.{is-byte-tree, is-nil}
-use Rattle.sexp.specs.Lists.{first-of}
 
 pub byte-one : (b : List ℕ) (k : ℕ) → length b ≡ 1 → eqb (getD b 0 0) k ≡ is-byte k b
 unfolding is-byte
@@ -49,9 +47,6 @@ module _ (f s : List ℕ) (n l r : ℕ) (q : Cell) (ep : q ≡ Pair l r) (eq : q
   unfolding non-nil
   non-nil-pair = rw tree
 
-  pub first-pair : Node l ≡ first-of (cellAt s n)
-  first-pair = rw (sym eq ∙ ep)
-
 -- after a look that gave an atom
 module _ (f s : List ℕ) (n : ℕ) (q : Cell) (eq : q ≡ cellAt s n) (ep : q ≡ Atom) where
   pub byte-atom : (z : List ℕ) (k : ℕ) (u : Bool) → u ≡ is-byte k z → z ≡ bytesAt f s n → u ≡ is-byte-tree k (treeAt f s n)
@@ -60,9 +55,6 @@ module _ (f s : List ℕ) (n : ℕ) (q : Cell) (eq : q ≡ cellAt s n) (ep : q �
 
   pub non-nil-atom : (z : List ℕ) → z ≡ bytesAt f s n → not (eqb (length z) 0) ≡ non-nil (treeAt f s n)
   non-nil-atom z ez = rw (look-atom f s n q eq ep, ← ez) (nil-length z)
-
-  pub first-atom : NotPair ≡ first-of (cellAt s n)
-  first-atom = rw (sym eq ∙ ep)
 
 pub nil-not : (t : Tree) (u : Bool) → u ≡ non-nil t → not u ≡ is-nil t
 unfolding non-nil is-nil is-empty

@@ -3,17 +3,8 @@ use Prim.Native.Nat.{ℕ, _<_, _≤_}
 use mathlib.Core.List.{List, [], _∷_}
 use lib.ListN.{getD, length}
 use Rattle.meaning.specs.Tree.{Tree, pair}
-use Rattle.store.specs.declared.Cell.{Cell}
-use Rattle.store.specs.declared.Cell.the-variants.{Pair, Atom}
 use Rattle.store.specs.declared.Charges.{Charges}
 use Rattle.store.specs.Cells.{Starts}
-use Rattle.sexp.specs.declared.First.{First}
-use Rattle.sexp.specs.declared.First.the-variants.{Node, NotPair}
-
--- sexp.rs, `first`: a pair's left part
-abbrev pub first-of : Cell → First
-first-of (Pair l r) = Node l
-first-of Atom = NotPair
 
 -- sexp.rs, `enlist`, onto a tail
 unfoldable pub enlist-onto : List Tree → Tree → Tree

@@ -11,12 +11,12 @@ ghost use lib.Dec.{eqb};
 ghost use Rattle.meaning.specs.Tree.{quote, is-byte, same-bytes, equal-to, non-nil};
 ghost use Rattle.meaning.specs.Substitute.{is-proper};
 ghost use Rattle.meaning.specs.Limits.{pair-cost};
-ghost use Rattle.store.specs.Cells.{Room, cellAt, bytesAt};
-ghost use Rattle.store.specs.Nodes.{treeAt, printOf};
+ghost use Rattle.store.specs.Cells.{Room, bytesAt};
+ghost use Rattle.store.specs.Nodes.{tree-in, printOf};
 ghost use Rattle.store.specs.Store.{Ready};
 ghost use Rattle.store.specs.Makers.{MadeOk, Answered, Grown};
 ghost use Rattle.sexp.specs.Tests.{is-byte-tree, is-nil};
-ghost use Rattle.sexp.specs.Lists.{first-of, enlist-onto, Items};
+ghost use Rattle.sexp.specs.Lists.{enlist-onto, Items};
 ghost use Rattle.sexp.specs.Canon.{Canon, Alike, ComparedOk};
 
 // ---- tests
@@ -31,7 +31,7 @@ pub fn is_byte(b: &[u8], k: u8) -> bool
 // An atom of the one byte k.
 pub fn is_byte_node<'a>(form: &'a [u8], room: &'a [u8], n: usize, k: u8) -> bool
     requires { ⌜ Room (now room) n ⌝ }
-    ensures { λ r. ⌜ r ≡ is-byte-tree k (treeAt (now (form .entry)) (now (room .entry)) n) ⌝ }
+    ensures { λ r. ⌜ r ≡ is-byte-tree k (tree-in form room n) ⌝ }
 {
     match store::look_node(room, n) {
         Cell::Pair(_, _) => false,
@@ -42,7 +42,7 @@ pub fn is_byte_node<'a>(form: &'a [u8], room: &'a [u8], n: usize, k: u8) -> bool
 // Rust's `non_nil`.
 pub fn non_nil_node<'a>(form: &'a [u8], room: &'a [u8], n: usize) -> bool
     requires { ⌜ Room (now room) n ⌝ }
-    ensures { λ r. ⌜ r ≡ non-nil (treeAt (now (form .entry)) (now (room .entry)) n) ⌝ }
+    ensures { λ r. ⌜ r ≡ non-nil (tree-in form room n) ⌝ }
 {
     match store::look_node(room, n) {
         Cell::Pair(_, _) => true,
@@ -53,33 +53,17 @@ pub fn non_nil_node<'a>(form: &'a [u8], room: &'a [u8], n: usize) -> bool
 // Nil: the empty atom, at whatever node.
 pub fn is_nil_node<'a>(form: &'a [u8], room: &'a [u8], n: usize) -> bool
     requires { ⌜ Room (now room) n ⌝ }
-    ensures { λ r. ⌜ r ≡ is-nil (treeAt (now (form .entry)) (now (room .entry)) n) ⌝ }
+    ensures { λ r. ⌜ r ≡ is-nil (tree-in form room n) ⌝ }
 {
     !non_nil_node(form, room, n)
 }
 
 // ---- lists
 
-pub enum First {
-    Node(usize),
-    NotPair,
-}
-
-// Rust's `first`.
-pub fn first_node(room: &[u8], n: usize) -> First
-    requires { ⌜ Room (now room) n ⌝ }
-    ensures { λ r. ⌜ r ≡ first-of (cellAt (now (room .entry)) n) ⌝ }
-{
-    match store::look_node(room, n) {
-        Cell::Pair(l, _) => First::Node(l),
-        Cell::Atom => First::NotPair,
-    }
-}
-
 // Whether Rust's `proper_list` gives a list: the last right part is nil.
 pub fn proper_list_node<'a>(form: &'a [u8], room: &'a [u8], n: usize) -> bool
     requires { ⌜ Room (now room) n ⌝ }
-    ensures { λ r. ⌜ r ≡ is-proper (treeAt (now (form .entry)) (now (room .entry)) n) ⌝ }
+    ensures { λ r. ⌜ r ≡ is-proper (tree-in form room n) ⌝ }
 {
     let mut m = n;
     loop {
@@ -110,7 +94,7 @@ pub fn enlist_node<'a>(
     tail: usize,
 ) -> Made
     requires { ⌜ Ready (now form) (now room) ch tail × Items (now room) ch (now items) k ⌝ }
-    ensures { λ a. ⌜ MadeOk (now (form .entry)) (now (room .entry)) (now (room .exit)) ch (pair-cost * k) (enlist-onto (map (treeAt (now (form .entry)) (now (room .entry))) (take k (now (items .entry)))) (treeAt (now (form .entry)) (now (room .entry)) tail)) a ⌝ }
+    ensures { λ a. ⌜ MadeOk (now (form .entry)) (now (room .entry)) (now (room .exit)) ch (pair-cost * k) (enlist-onto (map (tree-in form room) (take k (now (items .entry)))) (tree-in form room tail)) a ⌝ }
 {
     let mut c = ch;
     let mut i = k;
@@ -133,7 +117,7 @@ pub fn enlist_node<'a>(
 // helpers.rs, `quote`: (1 . n).
 pub fn quote_node(form: &[u8], room: &mut [u8], ch: Charges, n: usize) -> Made
     requires { ⌜ Ready (now form) (now room) ch n ⌝ }
-    ensures { λ a. ⌜ MadeOk (now (form .entry)) (now (room .entry)) (now (room .exit)) ch (5 + pair-cost) (quote (treeAt (now (form .entry)) (now (room .entry)) n)) a ⌝ }
+    ensures { λ a. ⌜ MadeOk (now (form .entry)) (now (room .entry)) (now (room .exit)) ch (5 + pair-cost) (quote (tree-in form room n)) a ⌝ }
 {
     let one: [u8; 1] = [1];
     match store::atom_node(form, room, ch, &one) {
@@ -145,12 +129,12 @@ pub fn quote_node(form: &[u8], room: &mut [u8], ch: Charges, n: usize) -> Made
 // ---- equality
 
 // What two records tell, or the parts that are left to compare.
-pub(crate) enum Compared {
+pub enum Compared {
     Told(bool),
     Parts(usize, usize, usize, usize),
 }
 
-// Two atoms' bytes.
+// Are the bytes the same?
 pub fn same_bytes(x: &[u8], y: &[u8]) -> bool
     ensures { λ r. ⌜ r ≡ same-bytes (now (x .entry)) (now (y .entry)) ⌝ }
 {
@@ -165,6 +149,33 @@ pub fn same_bytes(x: &[u8], y: &[u8]) -> bool
         i += 1;
     }
     true
+}
+
+// The bytes of two atoms, by node.
+pub fn same_atoms<'a>(form: &'a [u8], room: &'a [u8], a: usize, b: usize) -> bool
+    requires { ⌜ Room (now room) a × Room (now room) b ⌝ }
+    ensures { λ r. ⌜ r ≡ same-bytes (bytesAt (now (form .entry)) (now (room .entry)) a) (bytesAt (now (form .entry)) (now (room .entry)) b) ⌝ }
+{
+    let x = store::atom_bytes(form, room, a);
+    let y = store::atom_bytes(form, room, b);
+    same_bytes(x, y)
+}
+
+// Two nodes, their parts aside.
+pub fn compare_records<'a>(form: &'a [u8], room: &'a [u8], a: usize, b: usize) -> Compared
+    requires { ⌜ Room (now room) a × Room (now room) b ⌝ }
+    ensures { λ r. ⌜ ComparedOk (now (form .entry)) (now (room .entry)) a b r ⌝ }
+{
+    match store::look_node(room, a) {
+        Cell::Pair(al, ar) => match store::look_node(room, b) {
+            Cell::Pair(bl, br) => Compared::Parts(al, ar, bl, br),
+            Cell::Atom => Compared::Told(false),
+        },
+        Cell::Atom => match store::look_node(room, b) {
+            Cell::Pair(_, _) => Compared::Told(false),
+            Cell::Atom => Compared::Told(same_atoms(form, room, a, b)),
+        },
+    }
 }
 
 // The lowest node known to stand for the same tree as n.
@@ -195,18 +206,9 @@ fn join(form: &[u8], room: &mut [u8], ch: Charges, a: usize, b: usize)
     }
 }
 
-fn equal_atoms<'a>(form: &'a [u8], room: &'a [u8], a: usize, b: usize) -> bool
-    requires { ⌜ Room (now room) a × Room (now room) b ⌝ }
-    ensures { λ r. ⌜ r ≡ same-bytes (bytesAt (now (form .entry)) (now (room .entry)) a) (bytesAt (now (form .entry)) (now (room .entry)) b) ⌝ }
-{
-    let x = store::atom_bytes(form, room, a);
-    let y = store::atom_bytes(form, room, b);
-    same_bytes(x, y)
-}
-
 fn prints_differ<'a>(form: &'a [u8], room: &'a [u8], ch: Charges, a: usize, b: usize) -> bool
     requires { ⌜ Ready (now form) (now room) ch a × Ready (now form) (now room) ch b ⌝ }
-    ensures { λ r. ⌜ r ≡ not (eqb (printOf (treeAt (now (form .entry)) (now (room .entry)) a)) (printOf (treeAt (now (form .entry)) (now (room .entry)) b))) ⌝ }
+    ensures { λ r. ⌜ r ≡ not (eqb (printOf (tree-in form room a)) (printOf (tree-in form room b))) ⌝ }
 {
     store::print_node(form, room, ch, a) != store::print_node(form, room, ch, b)
 }
@@ -214,7 +216,7 @@ fn prints_differ<'a>(form: &'a [u8], room: &'a [u8], ch: Charges, a: usize, b: u
 // Rust's `equal_to`. Pairs found equal are joined, so that no two records are found equal twice.
 pub fn equal_node(form: &[u8], room: &mut [u8], ch: Charges, x: usize, y: usize) -> bool
     requires { ⌜ Ready (now form) (now room) ch x × Ready (now form) (now room) ch y ⌝ }
-    ensures { λ r. ⌜ Answered (now (form .entry)) (now (room .entry)) (now (room .exit)) ch r (equal-to (treeAt (now (form .entry)) (now (room .entry)) x) (treeAt (now (form .entry)) (now (room .entry)) y)) ⌝ }
+    ensures { λ r. ⌜ Answered (now (form .entry)) (now (room .entry)) (now (room .exit)) ch r (equal-to (tree-in form room x) (tree-in form room y)) ⌝ }
 {
     let a = canon(form, room, ch, x);
     let b = canon(form, room, ch, y);
@@ -224,36 +226,17 @@ pub fn equal_node(form: &[u8], room: &mut [u8], ch: Charges, x: usize, y: usize)
     equal_records(form, room, ch, a, b)
 }
 
-// The parts of two pairs are left to compare only where the fingerprints are the same.
-fn compare_records<'a>(form: &'a [u8], room: &'a [u8], ch: Charges, a: usize, b: usize) -> Compared
-    requires { ⌜ Ready (now form) (now room) ch a × Ready (now form) (now room) ch b ⌝ }
-    ensures { λ r. ⌜ ComparedOk (now (form .entry)) (now (room .entry)) a b r ⌝ }
-{
-    match store::look_node(room, a) {
-        Cell::Pair(al, ar) => match store::look_node(room, b) {
-            Cell::Pair(bl, br) => {
-                if prints_differ(form, room, ch, a, b) {
-                    return Compared::Told(false);
-                }
-                Compared::Parts(al, ar, bl, br)
-            }
-            Cell::Atom => Compared::Told(false),
-        },
-        Cell::Atom => match store::look_node(room, b) {
-            Cell::Pair(_, _) => Compared::Told(false),
-            Cell::Atom => Compared::Told(equal_atoms(form, room, a, b)),
-        },
-    }
-}
-
-// After the parts' comparison, equal pairs are joined.
+// The parts of two pairs are compared only where the fingerprints are the same; then equal pairs are joined.
 fn equal_records(form: &[u8], room: &mut [u8], ch: Charges, a: usize, b: usize) -> bool
     requires { ⌜ Ready (now form) (now room) ch a × Ready (now form) (now room) ch b ⌝ }
-    ensures { λ r. ⌜ Answered (now (form .entry)) (now (room .entry)) (now (room .exit)) ch r (equal-to (treeAt (now (form .entry)) (now (room .entry)) a) (treeAt (now (form .entry)) (now (room .entry)) b)) ⌝ }
+    ensures { λ r. ⌜ Answered (now (form .entry)) (now (room .entry)) (now (room .exit)) ch r (equal-to (tree-in form room a) (tree-in form room b)) ⌝ }
 {
-    match compare_records(form, room, ch, a, b) {
+    match compare_records(form, room, a, b) {
         Compared::Told(u) => u,
         Compared::Parts(al, ar, bl, br) => {
+            if prints_differ(form, room, ch, a, b) {
+                return false;
+            }
             if equal_node(form, room, ch, al, bl) {
                 if equal_node(form, room, ch, ar, br) {
                     join(form, room, ch, a, b);

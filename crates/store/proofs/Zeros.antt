@@ -5,7 +5,7 @@ use Prim.Native.Nat.{ℕ, zero, suc, _+_, _-_, _<_, _≤_}
 use native.Mathlib.Omega.{arith}
 use lib.ListN.{getD, length, set, length-set}
 use lib.Seq.{getD-set-same, getD-set-other, ext-getD}
-use Rattle.meaning.specs.Run.{zeroed}
+use Rattle.meaning.specs.Outcome.{zeroed}
 use Rattle.store.proofs.Places.{split}
 
 pub record Zeroing (s t : List ℕ) (i : ℕ) : Type 0 where

@@ -1,6 +1,8 @@
 -- The tree that a node stands for, and a tree's fingerprint.
 use Prim.Native.Nat.{ℕ, zero, suc, _+_, _%_, _^_}
 use mathlib.Core.List.{List, [], _∷_}
+use denote.Ref.{RefT, now}
+use denote.Triple.Both.{Both}
 use Rattle.meaning.specs.Tree.{Tree, atom, pair}
 use Rattle.store.specs.declared.Cell.{Cell}
 use Rattle.store.specs.declared.Cell.the-variants.{Pair, Atom}
@@ -18,6 +20,10 @@ treeTo (suc k) f s n = grow (cellAt s n) (bytesAt f s n) (treeTo k f s)
 -- the form's bytes, the room's bytes, the node
 unfoldable pub treeAt : List ℕ → List ℕ → ℕ → Tree
 treeAt f s n = treeTo (suc n) f s n
+
+-- in an `ensures`: the tree at a node as the function begins, from the parameters `form` and `room`
+abbrev pub tree-in : {X Y : Type 0} → Both (RefT (List ℕ)) X → Both (RefT (List ℕ)) Y → ℕ → Tree
+tree-in form room = treeAt (now (form .entry)) (now (room .entry))
 
 -- "a 64-bit fingerprint whose sums wrap on purpose": the left one doubled, so that order matters
 unfoldable pub mixed : ℕ → ℕ → ℕ

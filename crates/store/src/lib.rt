@@ -7,11 +7,14 @@ ghost use lib.ListN.{length, take, drop};
 ghost use Rattle.meaning.specs.Tree.{atom, pair};
 ghost use Rattle.meaning.specs.Limits.{unit-limit, pair-cost, atom-cost};
 ghost use Rattle.meaning.specs.Constant.{seems-constant, seems-constant-tail};
-ghost use Rattle.meaning.specs.Run.{zeroed};
+ghost use Rattle.meaning.specs.Outcome.{zeroed};
 ghost use Rattle.store.specs.Cells.{num16, num32, num64, put16, put32, put64, Room, cellAt, bytesAt, sameAt, pairPut, atomPut, Copied};
 ghost use Rattle.store.specs.Nodes.{treeAt, mixed, printFrom, printOf};
 ghost use Rattle.store.specs.Store.{notedAt, notedTailAt, digit, note, noteTail, atom-most, free-limit, Paid, Held, Ready};
 ghost use Rattle.store.specs.Makers.{charged, lend, MadeOk, Put, LaidOk, Begun, Answered, Grown, Joins};
+
+// How many bytes of room a caller has to lend.
+pub const ROOM: usize = 65536;
 
 pub enum Cell {
     Pair(usize, usize),

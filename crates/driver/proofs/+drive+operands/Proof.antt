@@ -4,13 +4,12 @@ use Prim.Native.Nat.{ℕ, _+_, _-_, _*_, _<_}
 use borrow.Author.Needs.{needs}
 use borrow.Fn.Kinds.{In}
 use borrow.Fn.PlainCycle.{Measures, is, falls, and}
-use native.Mathlib.Omega.{arith}
 use Rattle.driver_parts.proofs.Chunk as chunk
 use Rattle.driver_parts.proofs.Looping as looping
 use Rattle.driver.proofs.Keeping as keeping
 use Rattle.driver.proofs.Rounds as rounds
-use Rattle.memo.specs.Memo.{Valid}
-use Rattle.memo.proofs.Entries as entries
+use Rattle.run_state.specs.State.{Valid}
+use Rattle.run_state.proofs.Entries as entries
 use Rattle.driver.proofs.drive.Reads as drive
 use Rattle.driver.proofs.drive.Kinds as drive-kinds
 use Rattle.driver.proofs.+drive+operands.Lts-drive as drive-lts
@@ -27,7 +26,7 @@ use Rattle.memo.proofs.store.Reads as store-reads
 use Rattle.planning.proofs.keep_body.Reads as keep-body-reads
 use Rattle.planning.proofs.keep_list.Reads as keep-list-reads
 use Rattle.planning.proofs.start_rule.Reads as start-rule-reads
-use Rattle.rules.proofs.with.Reads as with-reads
+use Rattle.run_state.proofs.with.Reads as with-reads
 use Rattle.store.proofs.look_node.Reads as look-node-reads
 use Rattle.driver.proofs.+drive+operands.{statement}
 use Rattle.driver.proofs.+drive+operands.Tie.{close}

@@ -15,7 +15,7 @@ same-spec =
     (λ c κs. search room)  -- look-node-requires-2
     (λ c. search needs)  -- enum-told-3
     (λ c. search needs)  -- enum-told-4
-    (λ c κs. (search room, search room))  -- equal-bytes-requires
+    (λ c κs. (search room, search room))  -- same-atoms-requires
     (λ c κs. search needs)  -- yes-no-requires
     (λ c. search needs)  -- same-length
     (λ c. search operators.same-pair)  -- returns

@@ -1,3 +1,4 @@
+-- deliver: by what deliver_node says.
 use Rattle.form.proofs.Bytes as laws
 use Rattle.form.proofs.deliver.Statement.{statement}
 use Rattle.form.proofs.deliver.Tie as tie
@@ -7,10 +8,10 @@ pub deliver-spec : {M : Type 1} → statement M
 deliver-spec =
     tie.close
     (tie.spec
-    (λ c κs. search needs)  -- length-node-requires
+    (λ c κs. search needs)  -- deliver-node-requires
     (λ c. search needs)  -- enum-told
-    (λ c. search needs)  -- enum-told-2
-    (λ c κs. (search needs, search laws.deliver-fits))  -- write-node-requires
-    (λ c. search laws.deliver-short)  -- returns
+    (λ c. search needs)  -- enum-known-k
     (λ c. search needs)  -- same-length
+    (λ c. search laws.deliver-short)  -- returns
+    (λ c. search needs)  -- same-length-2
     (λ c. search laws.deliver-done))  -- returns-2

@@ -8,9 +8,8 @@ pub matches-spec : {M : Type 1} → statement M
 matches-spec =
     tie.close
     (tie.spec
-    (λ c. search laws.room-small)  -- returns
-    (λ c κs. search needs)  -- split-requires
-    (λ c κs. (search needs, search needs))  -- work-requires
+    (λ c. search laws.matches-small)  -- returns
+    (λ c κs. search needs)  -- work-requires
     (λ c. search needs)  -- enum-known-e
     (λ c κs. search needs)  -- zero-room-requires
     (λ c. search needs)  -- enum-known-m

@@ -1,9 +1,5 @@
 -- deliver: an answer for each need; what carries weight stands in the laws.
-use Rattle.form.proofs.length_node.Reads as length-node-reads
-use Rattle.form.proofs.write_node.Reads as write-node-reads
 use Rattle.optimiser.proofs.Bytes as laws
-use Rattle.optimiser.proofs.deliver.Lts as lts
-use Rattle.optimiser.proofs.deliver.Reads as reads
 use Rattle.optimiser.proofs.deliver.Statement.{statement}
 use Rattle.optimiser.proofs.deliver.Tie as tie
 use borrow.Author.Needs.{needs}
@@ -14,11 +10,11 @@ deliver-spec =
     (tie.spec
     (λ c. search needs)  -- enum-known-x
     (λ c. search needs)  -- enum-known-x-2
-    (λ c κs. search laws.deliver-writable)  -- length-node-requires
+    (λ c κs. search laws.deliver-writable)  -- deliver-node-requires
     (λ c. search needs)  -- enum-told
-    (λ c. search needs)  -- enum-told-2
-    (λ c κs. (search laws.deliver-writable, search laws.deliver-fits))  -- write-node-requires
+    (λ c. search needs)  -- enum-known-k
     (λ c. search laws.deliver-refused)  -- returns
-    (λ c. search laws.deliver-short)  -- returns-2
     (λ c. search needs)  -- same-length
+    (λ c. search laws.deliver-short)  -- returns-2
+    (λ c. search needs)  -- same-length-2
     (λ c. search laws.deliver-done))  -- returns-3

@@ -9,7 +9,7 @@ path-node-spec =
     tie.close
     (tie.spec
     (λ c κs. search path.path-room)  -- atom-bytes-requires
-    (λ c κs. search needs)  -- longer-requires
+    (λ c κs. search needs)  -- lengthen-requires
     (λ c κs. search needs)  -- with-requires
     (λ c. search needs)  -- same-length
     (λ c. search path.path-long)  -- returns
@@ -21,4 +21,4 @@ path-node-spec =
     (λ c κs. search needs)  -- marked-requires
     (λ c κs. search needs)  -- put-requires
     (λ c. search needs)  -- same-length-2
-    (λ c. path.path-made _ _ _ _ _ _ _ _ _ (c .before .before .before .before .before .before .before .before .before .before .before .before .longer .ensures) (c .before .before .before .before .before .before .before .before .before .before .before .before .before .atom-bytes .ensures) (c .before .before .before .before .before .before .before .before .before .before .before .before .before .before .before .before .before .pre .0) _ _ _ (c .before .before .before .before .atom-node .ensures) (search needs) (c .before .marked .ensures) (c .put .ensures)))  -- returns-2
+    (λ c. path.path-made _ _ _ _ _ _ _ _ _ (c .before .before .before .before .before .before .before .before .before .before .before .before .lengthen .ensures) (c .before .before .before .before .before .before .before .before .before .before .before .before .before .atom-bytes .ensures) (c .before .before .before .before .before .before .before .before .before .before .before .before .before .before .before .before .before .pre .0) _ _ _ (c .before .before .before .before .atom-node .ensures) (search needs) (c .before .marked .ensures) (c .put .ensures)))  -- returns-2

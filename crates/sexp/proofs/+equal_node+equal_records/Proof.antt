@@ -3,9 +3,11 @@ use Prim.Native.Nat.{ℕ, _+_, _<_}
 use borrow.Author.Needs.{needs}
 use borrow.Fn.Kinds.{In}
 use borrow.Fn.PlainCycle.{Measures, is, falls, and}
+use Rattle.store.proofs.Ready.{room}
 use Rattle.sexp.proofs.Equal as equal
 use Rattle.sexp.proofs.canon.Reads as canon-reads
 use Rattle.sexp.proofs.compare_records.Reads as compare-records-reads
+use Rattle.sexp.proofs.prints_differ.Reads as prints-differ-reads
 use Rattle.sexp.proofs.join.Reads as join-reads
 use Rattle.sexp.proofs.equal_node.Reads as equal-node
 use Rattle.sexp.proofs.equal_node.Kinds as equal-node-kinds
@@ -38,7 +40,7 @@ abbrev equal-node-rs : ℕ → equal-node-lts.Claims
 equal-node-rs t = (canon-reads.Asked, canon-reads.Learnt, equal-records-below t, equal-records.Post)
 
 abbrev equal-records-rs : ℕ → equal-records-lts.Claims
-equal-records-rs t = (compare-records-reads.Asked, compare-records-reads.Learnt, equal-node-below t, equal-node.Post, join-reads.Asked, join-reads.Learnt)
+equal-records-rs t = (compare-records-reads.Asked, compare-records-reads.Learnt, prints-differ-reads.Asked, prints-differ-reads.Learnt, equal-node-below t, equal-node.Post, join-reads.Asked, join-reads.Learnt)
 
 pub +equal-node+equal-records-spec : {M : Type 1} → statement M
 +equal-node+equal-records-spec =
@@ -51,17 +53,20 @@ pub +equal-node+equal-records-spec : {M : Type 1} → statement M
     (λ c. search needs)  -- same-length-2
     (λ c. search equal.from-canon))  -- returns-2
     λ t. equal-records-lts.spec (equal-records-rs t) (equal-records-at t) equal-records.Post
-    (λ c κs. search needs)  -- compare-records-requires
+    (λ c κs. (search room, search room))  -- compare-records-requires
     (λ c. search needs)  -- enum-known-u
     (λ c. search needs)  -- enum-known-al
-    (λ c κs. (search equal.left-falls, (search equal.left-one, search equal.left-other)))  -- equal-node-requires
-    (λ c κs. (search equal.right-falls, equal.right-asks _ _ _ _ _ _ _ _ _ (search needs) (c .before .before .before .before .before .before .before .before .before .compare-records .ensures) _ (c .before .before .before .before .before .before .before .before .before .before .before .before .before .pre .1 .0) (c .before .before .before .before .before .before .before .before .before .before .before .before .before .pre .1 .1) _ _ (c .before .before .before .before .equal-node .ensures)))  -- equal-node-requires-2
-    (λ c κs. equal.join-alike _ _ _ _ _ _ _ _ _ (search needs) (c .before .before .before .before .before .before .before .before .before .before .before .before .before .before .compare-records .ensures) _ (c .before .before .before .before .before .before .before .before .before .before .before .before .before .before .before .before .before .before .pre .1 .0) (c .before .before .before .before .before .before .before .before .before .before .before .before .before .before .before .before .before .before .pre .1 .1) _ _ (c .before .before .before .before .before .before .before .before .before .equal-node .ensures) (search needs) _ _ (c .before .before .before .before .equal-node2 .ensures) (search needs))  -- join-requires
+    (λ c κs. search needs)  -- prints-differ-requires
     (λ c. search needs)  -- same-length
-    (λ c. search equal.told)  -- returns
+    (λ c. search equal.prints-tell)  -- returns
+    (λ c κs. (search equal.left-falls, (search equal.left-one, search equal.left-other)))  -- equal-node-requires
+    (λ c κs. (search equal.right-falls, equal.right-asks _ _ _ _ _ _ _ _ _ (search needs) (c .before .before .before .before .before .before .before .before .before .before .before .before .compare-records .ensures) _ (c .before .before .before .before .before .before .before .before .before .before .before .before .before .before .before .before .pre .1 .0) (c .before .before .before .before .before .before .before .before .before .before .before .before .before .before .before .before .pre .1 .1) _ _ (c .before .before .before .before .equal-node .ensures)))  -- equal-node-requires-2
+    (λ c κs. equal.join-alike _ _ _ _ _ _ _ _ _ (search needs) (c .before .before .before .before .before .before .before .before .before .before .before .before .before .before .before .before .before .compare-records .ensures) _ (c .before .before .before .before .before .before .before .before .before .before .before .before .before .before .before .before .before .before .before .before .before .pre .1 .0) (c .before .before .before .before .before .before .before .before .before .before .before .before .before .before .before .before .before .before .before .before .before .pre .1 .1) _ _ (c .before .before .before .before .before .before .before .before .before .equal-node .ensures) (search needs) _ _ (c .before .before .before .before .equal-node2 .ensures) (search needs))  -- join-requires
     (λ c. search needs)  -- same-length-2
-    (λ c. search equal.joined-equal)  -- returns-2
+    (λ c. search equal.told)  -- returns-2
     (λ c. search needs)  -- same-length-3
-    (λ c. search equal.rights-differ)  -- returns-3
+    (λ c. equal.joined-equal _ _ _ _ _ _ _ _ _ (search needs) (c .before .before .before .before .before .before .before .before .before .before .before .before .before .before .before .before .before .before .before .before .compare-records .ensures) _ (c .before .before .before .before .before .before .before .before .before .before .before .before .before .before .before .before .before .before .before .before .before .before .before .before .pre .1 .0) (c .before .before .before .before .before .before .before .before .before .before .before .before .before .before .before .before .before .before .before .before .before .before .before .before .pre .1 .1) _ _ (c .before .before .before .before .before .before .before .before .before .before .before .before .equal-node .ensures) (search needs) _ _ (c .before .before .before .before .before .before .before .equal-node2 .ensures) _ (c .before .before .join .ensures) (search needs))  -- returns-3
     (λ c. search needs)  -- same-length-4
-    (λ c. search equal.lefts-differ)  -- returns-4
+    (λ c. search equal.rights-differ)  -- returns-4
+    (λ c. search needs)  -- same-length-5
+    (λ c. search equal.lefts-differ)  -- returns-5

@@ -1,13 +1,14 @@
 -- print_hex: an answer for each need; what carries weight stands in the laws.
 use Prim.Native.Nat.{_-_}
 use lib.ListN.{length}
+use Rattle.lines.specs.Hex.{hex-of}
 use borrow.Author.Needs.{needs}
 use Rattle.lines.proofs.Printing as printing
 use Rattle.lines.proofs.print.print_hex.Statement.{statement}
 use Rattle.lines.proofs.print.print_hex.Tie as tie
 
 abbrev Inv-loop : tie.InvT-loop
-Inv-loop text₀ at bytes k₀ i₀ text k i = printing.Hex bytes text₀ text at k i
+Inv-loop text₀ at bytes k₀ i₀ text k i = printing.Through hex-of bytes text₀ text at k i
 
 abbrev μ-loop : tie.MeasureT-loop
 μ-loop text₀ at bytes k₀ i₀ text k i = length bytes - i
@@ -18,11 +19,11 @@ print-hex-spec =
     (tie.spec
     Inv-loop
     μ-loop
-    (λ c. search printing.hex-starts)  -- loop-holds
+    (λ c. search (printing.starts hex-of printing.hex-each))  -- loop-holds
     (λ c. search needs)  -- shared-slice-read-put-byte
     (λ c κs. search needs)  -- put-byte-requires
     (λ c. search needs)  -- add-i
     (λ c. search needs)  -- loop-less
-    (λ c. search printing.hex-turn)  -- loop-again
+    (λ c. search (printing.turn hex-of printing.hex-each))  -- loop-again
     (λ c. search needs)  -- same-length
-    (λ c. search printing.hex-ends))  -- returns
+    (λ c. search (printing.ends hex-of printing.hex-each)))  -- returns

@@ -10,7 +10,7 @@ print-no-spec =
     (tie.spec
     (λ c. search needs)  -- slice-aggregate-print-word
     (λ c κs. search needs)  -- print-word-requires
-    (λ c κs. search needs)  -- print-number-requires
-    (λ c κs. search needs)  -- put-requires
+    (λ c. search needs)  -- slice-aggregate-print-numbers
+    (λ c κs. search needs)  -- print-numbers-requires
     (λ c. search needs)  -- same-length
-    (λ c. printing.no-ends _ _ _ _ _ _ _ _ _ (c .before .before .put .ensures) (c .before .before .before .before .before .before .print-number .ensures) (c .before .before .before .before .before .before .before .before .before .before .print-word .ensures)))  -- returns
+    (λ c. search printing.no-ends))  -- returns

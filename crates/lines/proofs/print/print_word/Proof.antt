@@ -1,5 +1,6 @@
 -- print_word: an answer for each need; what carries weight stands in the laws.
-use Prim.Native.Nat.{_-_}
+use Prim.Native.Nat.{ℕ, _-_}
+use mathlib.Core.List.{List}
 use lib.ListN.{length}
 use borrow.Author.Needs.{needs}
 use Rattle.lines.proofs.Printing as printing
@@ -7,7 +8,7 @@ use Rattle.lines.proofs.print.print_word.Statement.{statement}
 use Rattle.lines.proofs.print.print_word.Tie as tie
 
 abbrev Inv-loop : tie.InvT-loop
-Inv-loop text₀ at word k₀ i₀ text k i = printing.Word word text₀ text at k i
+Inv-loop text₀ at word k₀ i₀ text k i = printing.Through (λ (w : List ℕ). w) word text₀ text at k i
 
 abbrev μ-loop : tie.MeasureT-loop
 μ-loop text₀ at word k₀ i₀ text k i = length word - i
@@ -18,11 +19,11 @@ print-word-spec =
     (tie.spec
     Inv-loop
     μ-loop
-    (λ c. search printing.word-starts)  -- loop-holds
+    (λ c. search (printing.starts (λ (w : List ℕ). w) printing.word-each))  -- loop-holds
     (λ c. search needs)  -- shared-slice-read-put
     (λ c κs. search needs)  -- put-requires
     (λ c. search needs)  -- add-i
     (λ c. search needs)  -- loop-less
-    (λ c. search printing.word-turn)  -- loop-again
+    (λ c. search (printing.turn (λ (w : List ℕ). w) printing.word-each))  -- loop-again
     (λ c. search needs)  -- same-length
-    (λ c. search printing.word-ends))  -- returns
+    (λ c. search (printing.ends (λ (w : List ℕ). w) printing.word-each)))  -- returns

@@ -2,6 +2,7 @@
 use mathlib.Core.Path.{sym}
 use lib.Seq.{length-take-le}
 use borrow.Author.Needs.{needs}
+use Rattle.lines.proofs.Waiting.{waits-both}
 use Rattle.lines.proofs.read.next_two.Statement.{statement}
 use Rattle.lines.proofs.read.next_two.Tie as tie
 
@@ -17,4 +18,4 @@ next-two-spec =
     (λ c κs. search needs)  -- both-requires
     (λ c. search needs)  -- same-length
     (λ c. search needs)  -- same-length-2
-    (λ c. record { fits = (search needs, sym (length-take-le _ _ (search needs))); first = search needs }))  -- returns
+    (λ c. record { fits = (search needs, sym (length-take-le _ _ (search needs))); first = search needs; waits = search waits-both }))  -- returns
