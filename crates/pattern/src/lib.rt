@@ -8,7 +8,7 @@ ghost use Rattle.meaning.specs.Match as meaning;
 ghost use Rattle.meaning.specs.Tree.{pair, same-bytes};
 ghost use Rattle.sexp.specs.Tests.{is-byte-tree};
 ghost use Rattle.store.specs.Cells.{Room, bytesAt};
-ghost use Rattle.store.specs.Nodes.{treeAt};
+ghost use Rattle.store.specs.Nodes.{tree-in};
 ghost use Rattle.store.specs.Store.{Ready};
 ghost use Rattle.pattern.specs.Bound.{bindingsAt, Named, Bound, MatchOk, GotOk, noBindings, inserted};
 ghost use Rattle.pattern.specs.Cases.{takes-any};
@@ -110,7 +110,7 @@ fn unify_bindings(
     node: usize,
 ) -> Match
     requires { ⌜ Bound (now form) (now room) ch ks × Named (now form) (now room) ch name × Ready (now form) (now room) ch node ⌝ }
-    ensures { λ a. ⌜ MatchOk (now (form .entry)) (now (room .entry)) (now (room .exit)) ch a (meaning.unify-bindings (bindingsAt (now (form .entry)) (now (room .entry)) ks) (bytesAt (now (form .entry)) (now (room .entry)) name) (treeAt (now (form .entry)) (now (room .entry)) node)) ⌝ }
+    ensures { λ a. ⌜ MatchOk (now (form .entry)) (now (room .entry)) (now (room .exit)) ch a (meaning.unify-bindings (bindingsAt (now (form .entry)) (now (room .entry)) ks) (bytesAt (now (form .entry)) (now (room .entry)) name) (tree-in form room node)) ⌝ }
 {
     match get(form, room, ch, ks, store::atom_bytes(form, room, name)) {
         Got::At(u) => {
@@ -129,7 +129,7 @@ fn unify_bindings(
 // (: . name) takes any pair, where name is not ':'.
 fn takes_any<'a>(form: &'a [u8], room: &'a [u8], a: usize, b: usize) -> bool
     requires { ⌜ Room (now room) a × Room (now room) b ⌝ }
-    ensures { λ r. ⌜ r ≡ takes-any (treeAt (now (form .entry)) (now (room .entry)) a) (treeAt (now (form .entry)) (now (room .entry)) b) ⌝ }
+    ensures { λ r. ⌜ r ≡ takes-any (tree-in form room a) (tree-in form room b) ⌝ }
 {
     if sexp::is_byte_node(form, room, a, b':') {
         match store::look_node(room, b) {
@@ -143,7 +143,7 @@ fn takes_any<'a>(form: &'a [u8], room: &'a [u8], a: usize, b: usize) -> bool
 
 fn both_bytes<'a>(form: &'a [u8], room: &'a [u8], x: usize, y: usize, k: u8) -> bool
     requires { ⌜ Room (now room) x × Room (now room) y ⌝ }
-    ensures { λ r. ⌜ r ≡ (is-byte-tree k (treeAt (now (form .entry)) (now (room .entry)) x) && is-byte-tree k (treeAt (now (form .entry)) (now (room .entry)) y)) ⌝ }
+    ensures { λ r. ⌜ r ≡ (is-byte-tree k (tree-in form room x) && is-byte-tree k (tree-in form room y)) ⌝ }
 {
     if sexp::is_byte_node(form, room, x, k) {
         sexp::is_byte_node(form, room, y, k)
@@ -162,7 +162,7 @@ fn match_atom<'a>(
     ks: Bindings,
 ) -> Match
     requires { ⌜ Named (now form) (now room) ch p × Ready (now form) (now room) ch s × Bound (now form) (now room) ch ks ⌝ }
-    ensures { λ a. ⌜ MatchOk (now (form .entry)) (now (room .entry)) (now (room .entry)) ch a (meaning.match-sexp (treeAt (now (form .entry)) (now (room .entry)) p) (treeAt (now (form .entry)) (now (room .entry)) s) (bindingsAt (now (form .entry)) (now (room .entry)) ks)) ⌝ }
+    ensures { λ a. ⌜ MatchOk (now (form .entry)) (now (room .entry)) (now (room .entry)) ch a (meaning.match-sexp (tree-in form room p) (tree-in form room s) (bindingsAt (now (form .entry)) (now (room .entry)) ks)) ⌝ }
 {
     match store::look_node(room, s) {
         Cell::Pair(_, _) => Match::NoMatch,
@@ -187,7 +187,7 @@ fn at_atom(
     ks: Bindings,
 ) -> Match
     requires { ⌜ Ready (now form) (now room) ch a × Ready (now form) (now room) ch b × Named (now form) (now room) ch s × Bound (now form) (now room) ch ks ⌝ }
-    ensures { λ r. ⌜ MatchOk (now (form .entry)) (now (room .entry)) (now (room .exit)) ch r (meaning.match-sexp (pair (treeAt (now (form .entry)) (now (room .entry)) a) (treeAt (now (form .entry)) (now (room .entry)) b)) (treeAt (now (form .entry)) (now (room .entry)) s) (bindingsAt (now (form .entry)) (now (room .entry)) ks)) ⌝ }
+    ensures { λ r. ⌜ MatchOk (now (form .entry)) (now (room .entry)) (now (room .exit)) ch r (meaning.match-sexp (pair (tree-in form room a) (tree-in form room b)) (tree-in form room s) (bindingsAt (now (form .entry)) (now (room .entry)) ks)) ⌝ }
 {
     match store::look_node(room, b) {
         Cell::Pair(_, _) => Match::NoMatch,
@@ -228,7 +228,7 @@ pub fn match_node(
     ks: Bindings,
 ) -> Match
     requires { ⌜ Ready (now form) (now room) ch p × Ready (now form) (now room) ch s × Bound (now form) (now room) ch ks ⌝ }
-    ensures { λ a. ⌜ MatchOk (now (form .entry)) (now (room .entry)) (now (room .exit)) ch a (meaning.match-sexp (treeAt (now (form .entry)) (now (room .entry)) p) (treeAt (now (form .entry)) (now (room .entry)) s) (bindingsAt (now (form .entry)) (now (room .entry)) ks)) ⌝ }
+    ensures { λ a. ⌜ MatchOk (now (form .entry)) (now (room .entry)) (now (room .exit)) ch a (meaning.match-sexp (tree-in form room p) (tree-in form room s) (bindingsAt (now (form .entry)) (now (room .entry)) ks)) ⌝ }
 {
     match store::look_node(room, p) {
         Cell::Atom => match_atom(form, room, ch, p, s, ks),
@@ -252,7 +252,7 @@ pub fn match_node(
 // `match_sexp` with no bindings known.
 pub fn matched_node(form: &[u8], room: &mut [u8], ch: Charges, p: usize, s: usize) -> Match
     requires { ⌜ Ready (now form) (now room) ch p × Ready (now form) (now room) ch s ⌝ }
-    ensures { λ a. ⌜ MatchOk (now (form .entry)) (now (room .entry)) (now (room .exit)) ch a (meaning.match-sexp (treeAt (now (form .entry)) (now (room .entry)) p) (treeAt (now (form .entry)) (now (room .entry)) s) []) ⌝ }
+    ensures { λ a. ⌜ MatchOk (now (form .entry)) (now (room .entry)) (now (room .exit)) ch a (meaning.match-sexp (tree-in form room p) (tree-in form room s) []) ⌝ }
 {
     match_node(form, room, ch, p, s, no_bindings())
 }
@@ -267,7 +267,7 @@ pub fn got_node<'a>(
     name: &'a [u8],
 ) -> Got
     requires { ⌜ Ready (now form) (now room) ch p × Ready (now form) (now room) ch s ⌝ }
-    ensures { λ g. ⌜ GotOk (now (form .entry)) (now (room .entry)) (now (room .exit)) ch g (meaning.got (now (name .entry)) (meaning.match-sexp (treeAt (now (form .entry)) (now (room .entry)) p) (treeAt (now (form .entry)) (now (room .entry)) s) [])) ⌝ }
+    ensures { λ g. ⌜ GotOk (now (form .entry)) (now (room .entry)) (now (room .exit)) ch g (meaning.got (now (name .entry)) (meaning.match-sexp (tree-in form room p) (tree-in form room s) [])) ⌝ }
 {
     match matched_node(form, room, ch, p, s) {
         Match::Matched(ks) => get(form, room, ch, ks, name),

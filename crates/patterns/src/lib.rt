@@ -7,7 +7,7 @@ ghost use Rattle.meaning.specs.Tree.{atom, pair, nil, byte};
 ghost use Rattle.meaning.specs.Substitute.{cons-pattern};
 ghost use Rattle.meaning.specs.Match.{atom-match};
 ghost use Rattle.meaning.specs.Rules.{apply-pattern, atom-name, apply-null-pattern-1};
-ghost use Rattle.store.specs.Nodes.{treeAt};
+ghost use Rattle.store.specs.Nodes.{tree-in};
 ghost use Rattle.store.specs.Store.{Held, Ready, free-limit};
 ghost use Rattle.store.specs.Makers.{LaidOk};
 ghost use Rattle.patterns.specs.Patterns.{BothLaid, OthersLaid, PatternsLaid, patterns-free};
@@ -58,7 +58,7 @@ fn lay_byte(form: &[u8], room: &mut [u8], ch: Charges, b: u8) -> Laid
 // (b . x)
 fn lay_headed(form: &[u8], room: &mut [u8], ch: Charges, b: u8, x: usize) -> Laid
     requires { ⌜ Ready (now form) (now room) ch x × (ch .free + 21 ≤ free-limit) ⌝ }
-    ensures { λ a. ⌜ LaidOk (now (form .entry)) (now (room .entry)) (now (room .exit)) ch 21 (pair (byte b) (treeAt (now (form .entry)) (now (room .entry)) x)) a ⌝ }
+    ensures { λ a. ⌜ LaidOk (now (form .entry)) (now (room .entry)) (now (room .exit)) ch 21 (pair (byte b) (tree-in form room x)) a ⌝ }
 {
     let o = lay_byte(form, room, ch, b);
     let c = o.ch;
@@ -78,7 +78,7 @@ fn lay_name<'a>(form: &'a [u8], room: &mut [u8], ch: Charges, x: u8, name: &'a [
 // (b x)
 fn lay_call(form: &[u8], room: &mut [u8], ch: Charges, b: u8, x: usize) -> Laid
     requires { ⌜ Ready (now form) (now room) ch x × (ch .free + 36 ≤ free-limit) ⌝ }
-    ensures { λ a. ⌜ LaidOk (now (form .entry)) (now (room .entry)) (now (room .exit)) ch 36 (pair (byte b) (pair (treeAt (now (form .entry)) (now (room .entry)) x) nil)) a ⌝ }
+    ensures { λ a. ⌜ LaidOk (now (form .entry)) (now (room .entry)) (now (room .exit)) ch 36 (pair (byte b) (pair (tree-in form room x) nil)) a ⌝ }
 {
     let t = store::lay_pair(form, room, ch, x, 0);
     let c = t.ch;
@@ -88,7 +88,7 @@ fn lay_call(form: &[u8], room: &mut [u8], ch: Charges, b: u8, x: usize) -> Laid
 // (b x y)
 fn lay_call_2(form: &[u8], room: &mut [u8], ch: Charges, b: u8, x: usize, y: usize) -> Laid
     requires { ⌜ Ready (now form) (now room) ch x × Ready (now form) (now room) ch y × (ch .free + 51 ≤ free-limit) ⌝ }
-    ensures { λ a. ⌜ LaidOk (now (form .entry)) (now (room .entry)) (now (room .exit)) ch 51 (pair (byte b) (pair (treeAt (now (form .entry)) (now (room .entry)) x) (pair (treeAt (now (form .entry)) (now (room .entry)) y) nil))) a ⌝ }
+    ensures { λ a. ⌜ LaidOk (now (form .entry)) (now (room .entry)) (now (room .exit)) ch 51 (pair (byte b) (pair (tree-in form room x) (pair (tree-in form room y) nil))) a ⌝ }
 {
     let t = store::lay_pair(form, room, ch, y, 0);
     let c = t.ch;
@@ -138,7 +138,7 @@ fn lay_apply_nil(form: &[u8], room: &mut [u8], ch: Charges) -> Laid
 // (f x) and (r x)
 fn lay_both(form: &[u8], room: &mut [u8], ch: Charges, x: usize) -> Both
     requires { ⌜ Ready (now form) (now room) ch x × (ch .free + 72 ≤ free-limit) ⌝ }
-    ensures { λ a. ⌜ BothLaid (now (form .entry)) (now (room .entry)) (now (room .exit)) ch 72 (treeAt (now (form .entry)) (now (room .entry)) x) a ⌝ }
+    ensures { λ a. ⌜ BothLaid (now (form .entry)) (now (room .entry)) (now (room .exit)) ch 72 (tree-in form room x) a ⌝ }
 {
     let f = lay_call(form, room, ch, 5, x);
     let c = f.ch;

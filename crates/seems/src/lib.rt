@@ -2,13 +2,13 @@
 use store::Cell;
 use store::Charges;
 ghost use Rattle.meaning.specs.Constant.{seems-constant, seems-constant-tail};
-ghost use Rattle.store.specs.Nodes.{treeAt};
+ghost use Rattle.store.specs.Nodes.{tree-in};
 ghost use Rattle.store.specs.Store.{Ready};
 ghost use Rattle.store.specs.Makers.{Answered};
 
 pub fn seems_constant(form: &[u8], room: &mut [u8], ch: Charges, n: usize) -> bool
     requires { ⌜ Ready (now form) (now room) ch n ⌝ }
-    ensures { λ r. ⌜ Answered (now (form .entry)) (now (room .entry)) (now (room .exit)) ch r (seems-constant (treeAt (now (form .entry)) (now (room .entry)) n)) ⌝ }
+    ensures { λ r. ⌜ Answered (now (form .entry)) (now (room .entry)) (now (room .exit)) ch r (seems-constant (tree-in form room n)) ⌝ }
 {
     match store::look_node(room, n) {
         Cell::Pair(op, rest) => {
@@ -43,7 +43,7 @@ pub fn seems_constant(form: &[u8], room: &mut [u8], ch: Charges, n: usize) -> bo
 
 pub fn seems_constant_tail(form: &[u8], room: &mut [u8], ch: Charges, n: usize) -> bool
     requires { ⌜ Ready (now form) (now room) ch n ⌝ }
-    ensures { λ r. ⌜ Answered (now (form .entry)) (now (room .entry)) (now (room .exit)) ch r (seems-constant-tail (treeAt (now (form .entry)) (now (room .entry)) n)) ⌝ }
+    ensures { λ r. ⌜ Answered (now (form .entry)) (now (room .entry)) (now (room .exit)) ch r (seems-constant-tail (tree-in form room n)) ⌝ }
 {
     match store::look_node(room, n) {
         Cell::Pair(first, rest) => {

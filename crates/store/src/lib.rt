@@ -9,7 +9,7 @@ ghost use Rattle.meaning.specs.Limits.{unit-limit, pair-cost, atom-cost};
 ghost use Rattle.meaning.specs.Constant.{seems-constant, seems-constant-tail};
 ghost use Rattle.meaning.specs.Outcome.{zeroed};
 ghost use Rattle.store.specs.Cells.{num16, num32, num64, put16, put32, put64, Room, cellAt, bytesAt, sameAt, pairPut, atomPut, Copied};
-ghost use Rattle.store.specs.Nodes.{treeAt, mixed, printFrom, printOf};
+ghost use Rattle.store.specs.Nodes.{treeAt, tree-in, mixed, printFrom, printOf};
 ghost use Rattle.store.specs.Store.{notedAt, notedTailAt, digit, note, noteTail, atom-most, free-limit, Paid, Held, Ready};
 ghost use Rattle.store.specs.Makers.{charged, lend, MadeOk, Put, LaidOk, Begun, Answered, Grown, Joins};
 
@@ -179,7 +179,7 @@ fn print_bytes(b: &[u8]) -> u64
 // A node's fingerprint: kept in a pair's record, counted for an atom.
 pub fn print_node<'a>(form: &'a [u8], room: &'a [u8], ch: Charges, n: usize) -> u64
     requires { ⌜ Ready (now form) (now room) ch n ⌝ }
-    ensures { λ r. ⌜ r ≡ printOf (treeAt (now (form .entry)) (now (room .entry)) n) ⌝ }
+    ensures { λ r. ⌜ r ≡ printOf (tree-in form room n) ⌝ }
 {
     match look_node(room, n) {
         Cell::Pair(_, _) => num8(room, n + 5),
@@ -235,7 +235,7 @@ fn put_pair(room: &mut [u8], n: usize, l: usize, r: usize, p: u64)
 // A pair, with its fingerprint from its parts' and itself as its same node.
 fn append_pair(form: &[u8], room: &mut [u8], ch: Charges, l: usize, r: usize) -> Charges
     requires { ⌜ Ready (now form) (now room) ch l × Ready (now form) (now room) ch r × Paid ch 15 ⌝ }
-    ensures { λ q. ⌜ Put (now (form .entry)) (now (room .entry)) (now (room .exit)) ch q (pair (treeAt (now (form .entry)) (now (room .entry)) l) (treeAt (now (form .entry)) (now (room .entry)) r)) ⌝ }
+    ensures { λ q. ⌜ Put (now (form .entry)) (now (room .entry)) (now (room .exit)) ch q (pair (tree-in form room l) (tree-in form room r)) ⌝ }
 {
     let a = print_node(form, room, ch, l);
     let b = print_node(form, room, ch, r);
@@ -307,7 +307,7 @@ fn append_atom<'a>(form: &'a [u8], room: &mut [u8], ch: Charges, b: &'a [u8]) ->
 // The pair of l and r, for 8 units.
 pub fn pair_node(form: &[u8], room: &mut [u8], ch: Charges, l: usize, r: usize) -> Made
     requires { ⌜ Ready (now form) (now room) ch l × Ready (now form) (now room) ch r ⌝ }
-    ensures { λ a. ⌜ MadeOk (now (form .entry)) (now (room .entry)) (now (room .exit)) ch pair-cost (pair (treeAt (now (form .entry)) (now (room .entry)) l) (treeAt (now (form .entry)) (now (room .entry)) r)) a ⌝ }
+    ensures { λ a. ⌜ MadeOk (now (form .entry)) (now (room .entry)) (now (room .exit)) ch pair-cost (pair (tree-in form room l) (tree-in form room r)) a ⌝ }
 {
     match charge(ch, 8) {
         Charged::Go(c) => {
@@ -372,7 +372,7 @@ fn give_free(ch: Charges, k: usize) -> Charges
 
 pub fn lay_pair(form: &[u8], room: &mut [u8], ch: Charges, l: usize, r: usize) -> Laid
     requires { ⌜ Ready (now form) (now room) ch l × Ready (now form) (now room) ch r × (ch .free + 15 ≤ free-limit) ⌝ }
-    ensures { λ a. ⌜ LaidOk (now (form .entry)) (now (room .entry)) (now (room .exit)) ch 15 (pair (treeAt (now (form .entry)) (now (room .entry)) l) (treeAt (now (form .entry)) (now (room .entry)) r)) a ⌝ }
+    ensures { λ a. ⌜ LaidOk (now (form .entry)) (now (room .entry)) (now (room .exit)) ch 15 (pair (tree-in form room l) (tree-in form room r)) a ⌝ }
 {
     let c = give_free(ch, 15);
     let n = c.end;
@@ -463,7 +463,7 @@ fn put_note_tail(room: &mut [u8], n: usize, b: bool)
 // Remembers an answer, and gives it.
 pub fn remember(form: &[u8], room: &mut [u8], ch: Charges, n: usize, b: bool) -> bool
     requires { ⌜ Ready (now form) (now room) ch n × (b ≡ seems-constant (treeAt (now form) (now room) n)) ⌝ }
-    ensures { λ r. ⌜ Answered (now (form .entry)) (now (room .entry)) (now (room .exit)) ch r (seems-constant (treeAt (now (form .entry)) (now (room .entry)) n)) ⌝ }
+    ensures { λ r. ⌜ Answered (now (form .entry)) (now (room .entry)) (now (room .exit)) ch r (seems-constant (tree-in form room n)) ⌝ }
 {
     put_note(room, n, b);
     b
@@ -471,7 +471,7 @@ pub fn remember(form: &[u8], room: &mut [u8], ch: Charges, n: usize, b: bool) ->
 
 pub fn remember_tail(form: &[u8], room: &mut [u8], ch: Charges, n: usize, b: bool) -> bool
     requires { ⌜ Ready (now form) (now room) ch n × (b ≡ seems-constant-tail (treeAt (now form) (now room) n)) ⌝ }
-    ensures { λ r. ⌜ Answered (now (form .entry)) (now (room .entry)) (now (room .exit)) ch r (seems-constant-tail (treeAt (now (form .entry)) (now (room .entry)) n)) ⌝ }
+    ensures { λ r. ⌜ Answered (now (form .entry)) (now (room .entry)) (now (room .exit)) ch r (seems-constant-tail (tree-in form room n)) ⌝ }
 {
     put_note_tail(room, n, b);
     b

@@ -13,7 +13,7 @@ ghost use Rattle.meaning.specs.Tree.{pair, nil, byte};
 ghost use Rattle.meaning.specs.Limits.{pair-cost};
 ghost use Rattle.meaning.specs.Substitute.{cons-pattern, sub-turns, is-low, part-cost, path-from-args, path-cost, sub-args, sub-each, sub-cost, sub-each-cost, reads-low, reads-low-each};
 ghost use Rattle.store.specs.Cells.{Room, bytesAt};
-ghost use Rattle.store.specs.Nodes.{treeAt};
+ghost use Rattle.store.specs.Nodes.{tree-in};
 ghost use Rattle.store.specs.Store.{Ready};
 ghost use Rattle.store.specs.Makers.{MadeOk};
 ghost use Rattle.pattern.specs.Bound.{GotOk, Named};
@@ -38,7 +38,7 @@ pub enum Sub {
 // (o args)
 fn call_node(form: &[u8], room: &mut [u8], ch: Charges, o: u8, args: usize) -> Made
     requires { ⌜ Ready (now form) (now room) ch args ⌝ }
-    ensures { λ a. ⌜ MadeOk (now (form .entry)) (now (room .entry)) (now (room .exit)) ch (5 + (pair-cost + pair-cost)) (pair (byte o) (pair (treeAt (now (form .entry)) (now (room .entry)) args) nil)) a ⌝ }
+    ensures { λ a. ⌜ MadeOk (now (form .entry)) (now (room .entry)) (now (room .exit)) ch (5 + (pair-cost + pair-cost)) (pair (byte o) (pair (tree-in form room args) nil)) a ⌝ }
 {
     let b = [o; 1];
     match store::atom_node(form, room, ch, &b) {
@@ -60,7 +60,7 @@ fn part_node(
     right: bool,
 ) -> Got
     requires { ⌜ Ready (now form) (now room) ch args × Shows (now form) (now room) ch cons cons-pattern ⌝ }
-    ensures { λ g. ⌜ GotOk (now (form .entry)) (now (room .entry)) (now (room .exit)) ch g (got-part right (treeAt (now (form .entry)) (now (room .entry)) args)) ⌝ }
+    ensures { λ g. ⌜ GotOk (now (form .entry)) (now (room .entry)) (now (room .exit)) ch g (got-part right (tree-in form room args)) ⌝ }
 {
     if right {
         pattern::got_node(form, room, ch, cons, args, b"rest")
@@ -85,7 +85,7 @@ fn cons_node(
     right: bool,
 ) -> Made
     requires { ⌜ Ready (now form) (now room) ch args × Shows (now form) (now room) ch cons cons-pattern ⌝ }
-    ensures { λ a. ⌜ MadeOk (now (form .entry)) (now (room .entry)) (now (room .exit)) ch (part-cost (treeAt (now (form .entry)) (now (room .entry)) args)) (cons-part right (treeAt (now (form .entry)) (now (room .entry)) args)) a ⌝ }
+    ensures { λ a. ⌜ MadeOk (now (form .entry)) (now (room .entry)) (now (room .exit)) ch (part-cost (tree-in form room args)) (cons-part right (tree-in form room args)) a ⌝ }
 {
     match part_node(form, room, cons, ch, args, right) {
         Got::At(n) => Made::Node(n, ch),
@@ -121,7 +121,7 @@ fn path_from_args(
     args: usize,
 ) -> Made
     requires { ⌜ Named (now form) (now room) ch n × Ready (now form) (now room) ch args × Shows (now form) (now room) ch cons cons-pattern ⌝ }
-    ensures { λ a. ⌜ MadeOk (now (form .entry)) (now (room .entry)) (now (room .exit)) ch (path-cost (sub-turns (bytesAt (now (form .entry)) (now (room .entry)) n)) (treeAt (now (form .entry)) (now (room .entry)) args)) (path-from-args (sub-turns (bytesAt (now (form .entry)) (now (room .entry)) n)) (treeAt (now (form .entry)) (now (room .entry)) args)) a ⌝ }
+    ensures { λ a. ⌜ MadeOk (now (form .entry)) (now (room .entry)) (now (room .exit)) ch (path-cost (sub-turns (bytesAt (now (form .entry)) (now (room .entry)) n)) (tree-in form room args)) (path-from-args (sub-turns (bytesAt (now (form .entry)) (now (room .entry)) n)) (tree-in form room args)) a ⌝ }
 {
     let count = count_turns(form, room, ch, n);
     let mut c = ch;
@@ -175,7 +175,7 @@ fn low_node<'a>(form: &'a [u8], room: &'a [u8], n: usize) -> bool
 // An atom of the body: read as a path.
 fn sub_atom(form: &[u8], room: &mut [u8], cons: usize, ch: Charges, n: usize, args: usize) -> Sub
     requires { ⌜ Named (now form) (now room) ch n × Ready (now form) (now room) ch args × Shows (now form) (now room) ch cons cons-pattern ⌝ }
-    ensures { λ r. ⌜ SubOk (now (form .entry)) (now (room .entry)) (now (room .exit)) ch (sub-cost (treeAt (now (form .entry)) (now (room .entry)) n) (treeAt (now (form .entry)) (now (room .entry)) args)) (sub-args (treeAt (now (form .entry)) (now (room .entry)) n) (treeAt (now (form .entry)) (now (room .entry)) args)) (reads-low (treeAt (now (form .entry)) (now (room .entry)) n)) r ⌝ }
+    ensures { λ r. ⌜ SubOk (now (form .entry)) (now (room .entry)) (now (room .exit)) ch (sub-cost (tree-in form room n) (tree-in form room args)) (sub-args (tree-in form room n) (tree-in form room args)) (reads-low (tree-in form room n)) r ⌝ }
 {
     let low = low_node(form, room, n);
     made(low, path_from_args(form, room, cons, ch, n, args))
@@ -184,7 +184,7 @@ fn sub_atom(form: &[u8], room: &mut [u8], cons: usize, ch: Charges, n: usize, ar
 // The head of a list that is no quote: an atom stays, and is not read; a pair is worked as a body.
 fn sub_head(form: &[u8], room: &mut [u8], cons: usize, ch: Charges, f: usize, args: usize) -> Sub
     requires { ⌜ Ready (now form) (now room) ch f × Ready (now form) (now room) ch args × Shows (now form) (now room) ch cons cons-pattern ⌝ }
-    ensures { λ r. ⌜ SubOk (now (form .entry)) (now (room .entry)) (now (room .exit)) ch (head-cost (treeAt (now (form .entry)) (now (room .entry)) f) (treeAt (now (form .entry)) (now (room .entry)) args)) (head-tree (treeAt (now (form .entry)) (now (room .entry)) f) (treeAt (now (form .entry)) (now (room .entry)) args)) (head-low (treeAt (now (form .entry)) (now (room .entry)) f)) r ⌝ }
+    ensures { λ r. ⌜ SubOk (now (form .entry)) (now (room .entry)) (now (room .exit)) ch (head-cost (tree-in form room f) (tree-in form room args)) (head-tree (tree-in form room f) (tree-in form room args)) (head-low (tree-in form room f)) r ⌝ }
 {
     match store::look_node(room, f) {
         Cell::Atom => Sub::Done(Substituted {
@@ -208,7 +208,7 @@ fn sub_list(
     args: usize,
 ) -> Sub
     requires { ⌜ Ready (now form) (now room) ch first × Ready (now form) (now room) ch rest × Ready (now form) (now room) ch args × Shows (now form) (now room) ch cons cons-pattern ⌝ }
-    ensures { λ r. ⌜ SubOk (now (form .entry)) (now (room .entry)) (now (room .exit)) ch (list-cost (treeAt (now (form .entry)) (now (room .entry)) rest) (treeAt (now (form .entry)) (now (room .entry)) args)) (list-tree (treeAt (now (form .entry)) (now (room .entry)) first) (treeAt (now (form .entry)) (now (room .entry)) rest) (treeAt (now (form .entry)) (now (room .entry)) args)) (list-low low (treeAt (now (form .entry)) (now (room .entry)) rest)) r ⌝ }
+    ensures { λ r. ⌜ SubOk (now (form .entry)) (now (room .entry)) (now (room .exit)) ch (list-cost (tree-in form room rest) (tree-in form room args)) (list-tree (tree-in form room first) (tree-in form room rest) (tree-in form room args)) (list-low low (tree-in form room rest)) r ⌝ }
 {
     if sexp::proper_list_node(form, room, rest) {
         match sub_each(form, room, cons, ch, rest, args) {
@@ -231,7 +231,7 @@ fn sub_list(
 // Each operand of the list.
 fn sub_each(form: &[u8], room: &mut [u8], cons: usize, ch: Charges, list: usize, args: usize) -> Sub
     requires { ⌜ Ready (now form) (now room) ch list × Ready (now form) (now room) ch args × Shows (now form) (now room) ch cons cons-pattern ⌝ }
-    ensures { λ r. ⌜ SubOk (now (form .entry)) (now (room .entry)) (now (room .exit)) ch (sub-each-cost (treeAt (now (form .entry)) (now (room .entry)) list) (treeAt (now (form .entry)) (now (room .entry)) args)) (sub-each (treeAt (now (form .entry)) (now (room .entry)) list) (treeAt (now (form .entry)) (now (room .entry)) args)) (reads-low-each (treeAt (now (form .entry)) (now (room .entry)) list)) r ⌝ }
+    ensures { λ r. ⌜ SubOk (now (form .entry)) (now (room .entry)) (now (room .exit)) ch (sub-each-cost (tree-in form room list) (tree-in form room args)) (sub-each (tree-in form room list) (tree-in form room args)) (reads-low-each (tree-in form room list)) r ⌝ }
 {
     match store::look_node(room, list) {
         Cell::Atom => Sub::Done(Substituted {
@@ -260,7 +260,7 @@ fn sub_each(form: &[u8], room: &mut [u8], cons: usize, ch: Charges, list: usize,
 // A quote is tested first: what is left is then one call for the head and one for the list.
 fn sub_body(form: &[u8], room: &mut [u8], cons: usize, ch: Charges, body: usize, args: usize) -> Sub
     requires { ⌜ Ready (now form) (now room) ch body × Ready (now form) (now room) ch args × Shows (now form) (now room) ch cons cons-pattern ⌝ }
-    ensures { λ r. ⌜ SubOk (now (form .entry)) (now (room .entry)) (now (room .exit)) ch (sub-cost (treeAt (now (form .entry)) (now (room .entry)) body) (treeAt (now (form .entry)) (now (room .entry)) args)) (sub-args (treeAt (now (form .entry)) (now (room .entry)) body) (treeAt (now (form .entry)) (now (room .entry)) args)) (reads-low (treeAt (now (form .entry)) (now (room .entry)) body)) r ⌝ }
+    ensures { λ r. ⌜ SubOk (now (form .entry)) (now (room .entry)) (now (room .exit)) ch (sub-cost (tree-in form room body) (tree-in form room args)) (sub-args (tree-in form room body) (tree-in form room args)) (reads-low (tree-in form room body)) r ⌝ }
 {
     match store::look_node(room, body) {
         Cell::Atom => sub_atom(form, room, cons, ch, body, args),
@@ -293,7 +293,7 @@ pub fn sub_args(
     args: usize,
 ) -> Sub
     requires { ⌜ Ready (now form) (now room) ch body × Ready (now form) (now room) ch args × Patterned (now form) (now room) ch p ⌝ }
-    ensures { λ r. ⌜ SubOk (now (form .entry)) (now (room .entry)) (now (room .exit)) ch (sub-cost (treeAt (now (form .entry)) (now (room .entry)) body) (treeAt (now (form .entry)) (now (room .entry)) args)) (sub-args (treeAt (now (form .entry)) (now (room .entry)) body) (treeAt (now (form .entry)) (now (room .entry)) args)) (reads-low (treeAt (now (form .entry)) (now (room .entry)) body)) r ⌝ }
+    ensures { λ r. ⌜ SubOk (now (form .entry)) (now (room .entry)) (now (room .exit)) ch (sub-cost (tree-in form room body) (tree-in form room args)) (sub-args (tree-in form room body) (tree-in form room args)) (reads-low (tree-in form room body)) r ⌝ }
 {
     sub_body(form, room, p.cons, ch, body, args)
 }
