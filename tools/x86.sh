@@ -22,7 +22,7 @@ x86_cross_rust() {
     [ -d "$(rustc --print sysroot 2>/dev/null)/lib/rustlib/x86_64-unknown-linux-gnu" ] && return
     dpkg --add-architecture amd64 && x86_install cargo-web rustc-web libstd-rust-web-dev:amd64
     x86_cargo=/usr/bin/cargo
-    export RUSTC=/usr/bin/rustc
+    export RUSTC=/usr/bin/rustc RUSTDOC=/usr/bin/rustdoc
 }
 
 x86_emulated() {
