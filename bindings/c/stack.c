@@ -1,6 +1,6 @@
-/* The stack that one call takes, measured: each line of standard input is a form in hex; after the last the program prints, for each
- * function, the most bytes of stack that a call took, and the line on which it did. (The thread's own first frames, some hundred
- * bytes, are counted in.) */
+/* The stack that one call takes, measured: each line of standard input is a form in hex, or, with a bracket in front, a text; after the
+ * last the program prints, for each function, the most bytes of stack that a call took, and the line on which it did. The functions that
+ * take a text are given the form's own. (The thread's own first frames, some hundred bytes, are counted in.) */
 #define _GNU_SOURCE
 #include "umlazgrin.h"
 #include <pthread.h>
@@ -11,10 +11,10 @@
 
 /* A word of the stack that nothing has touched. */
 #define CLEAN 0xa5a5a5a5a5a5a5a5u
-enum { STACK = 8 << 20, WORDS = STACK / 8 };
-static uint8_t form[UMLAZGRIN_FORM], room[UMLAZGRIN_ROOM], out[UMLAZGRIN_OUTPUT];
+enum { STACK = 8 << 20, WORDS = STACK / 8, FORMS = 6, FUNCTIONS = 9 };
+static uint8_t form[UMLAZGRIN_FORM], text[UMLAZGRIN_TEXT + 2], room[UMLAZGRIN_ROOM], out[UMLAZGRIN_OUTPUT];
 static uint64_t *stack;
-static size_t length;
+static size_t length, text_length;
 
 static void *optimise(void *none) {
     struct umlazgrin_optimised r;
@@ -49,6 +49,29 @@ static void *write_again(void *none) {
     return none;
 }
 
+static void *write_text(void *none) {
+    struct umlazgrin_written r;
+    umlazgrin_write_text(form, length, room, sizeof room, out, sizeof out, &r);
+    return none;
+}
+static void *read_text(void *none) {
+    struct umlazgrin_written r;
+    umlazgrin_read_text(text, text_length, room, sizeof room, out, sizeof out, &r);
+    return none;
+}
+static void *optimise_text(void *none) {
+    struct umlazgrin_optimised r;
+    umlazgrin_optimise_text(text, text_length, room, sizeof room, out, sizeof out, &r);
+    return none;
+}
+/* The text as a program, in the environment nil. */
+static void *evaluate_text(void *none) {
+    struct umlazgrin_evaluated r;
+    memcpy(text + text_length, "()", 2);
+    umlazgrin_evaluate_text(text, text_length + 2, text_length, room, sizeof room, out, sizeof out, &r);
+    return none;
+}
+
 /* How deep the work went into a clean stack. */
 static size_t taken(void *(*work)(void *)) {
     static size_t low = 0;
@@ -63,26 +86,41 @@ static size_t taken(void *(*work)(void *)) {
     return STACK - 8 * low;
 }
 
+/* Takes the line as a text, or as a form with its text (none where the form is refused); returns the first function to try. */
+static int take(const char *line) {
+    struct umlazgrin_written r;
+    length = strcspn(line, "\n");
+    if (line[0] == '(') {
+        text_length = length < UMLAZGRIN_TEXT ? length : UMLAZGRIN_TEXT;
+        memcpy(text, line, text_length);
+        return FORMS;
+    }
+    length /= 2;
+    if (length > sizeof form) return FUNCTIONS;
+    for (size_t i = 0; i < length; i++) {
+        char two[3] = {line[2 * i], line[2 * i + 1], 0};
+        form[i] = (uint8_t)strtoul(two, NULL, 16);
+    }
+    text_length = umlazgrin_write_text(form, length, room, sizeof room, text, UMLAZGRIN_TEXT, &r) ? 0 : r.length;
+    return 0;
+}
+
 int main(void) {
-    const char *names[] = {"optimise", "evaluate", "match", "check", "write"};
-    void *(*works[])(void *) = {optimise, evaluate, match, check, write_again};
-    size_t most[5] = {0}, at[5] = {0}, line = 0;
-    static char text[2 * sizeof form + 64];
+    const char *names[FUNCTIONS] = {"optimise",   "evaluate",  "match",         "check",        "write",
+                                    "write_text", "read_text", "optimise_text", "evaluate_text"};
+    void *(*works[FUNCTIONS])(void *) = {optimise,   evaluate,  match,         check,        write_again,
+                                         write_text, read_text, optimise_text, evaluate_text};
+    size_t most[FUNCTIONS] = {0}, at[FUNCTIONS] = {0}, number = 0;
+    static char line[UMLAZGRIN_TEXT + 64];
     stack = mmap(NULL, STACK, PROT_READ | PROT_WRITE, MAP_PRIVATE | MAP_ANONYMOUS, -1, 0);
     if (stack == MAP_FAILED) abort();
-    while (fgets(text, sizeof text, stdin)) {
-        line++;
-        length = strcspn(text, "\n") / 2;
-        if (length > sizeof form) continue;
-        for (size_t i = 0; i < length; i++) {
-            char two[3] = {text[2 * i], text[2 * i + 1], 0};
-            form[i] = (uint8_t)strtoul(two, NULL, 16);
-        }
-        for (int k = 0; k < 5; k++) {
+    while (fgets(line, sizeof line, stdin)) {
+        number++;
+        for (int k = take(line); k < FUNCTIONS; k++) {
             size_t depth = taken(works[k]);
-            if (depth > most[k]) most[k] = depth, at[k] = line;
+            if (depth > most[k]) most[k] = depth, at[k] = number;
         }
     }
-    for (int k = 0; k < 5; k++) printf("%s %zu bytes of stack, line %zu\n", names[k], most[k], at[k]);
+    for (int k = 0; k < FUNCTIONS; k++) printf("%s %zu bytes of stack, line %zu\n", names[k], most[k], at[k]);
     return 0;
 }

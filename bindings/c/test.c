@@ -1,29 +1,5 @@
 /* The library as C sees it: answers, reports, every lent byte, and what the header says of misuse. Prints one line. */
-#include "umlazgrin.h"
-#include <stdio.h>
-#include <stdlib.h>
-#include <string.h>
-
-static uint8_t room[UMLAZGRIN_ROOM + 16], out[64];
-static unsigned failed, tried;
-
-#define expect(fact) (tried++, (fact) ? (void)0 : (void)(failed++, fprintf(stderr, "test.c:%d: %s\n", __LINE__, #fact)))
-
-/* Lent bytes that a function cannot take for its own. */
-static void fill(void) {
-    memset(room, 0xa5, sizeof room);
-    memset(out, 0x5a, sizeof out);
-}
-
-static int all(const uint8_t *from, size_t count, uint8_t byte) {
-    for (size_t i = 0; i < count; i++)
-        if (from[i] != byte) return 0;
-    return 1;
-}
-
-/* The room is all zero up to its length, the bytes behind it are as they were. */
-static int cleared(size_t length) { return all(room, length, 0) && all(room + length, sizeof room - length, 0xa5); }
-static int untouched(void) { return all(room, sizeof room, 0xa5); }
+#include "test.h"
 
 static const uint8_t first_of_one[] = {0xff, 0x05, 0xff, 0x01, 0x80}; /* (f 1) */
 static const uint8_t fails[] = {0xff, 0x05, 0xff, 0x80, 0x80};        /* (f 0) */

@@ -1,20 +1,21 @@
 /* Umlazgrin as a C library: the classic Chialisp optimiser (stage 2), an evaluator, a matcher, a reader and a writer of the
- * serialised form, on bytes that the caller lends. Link libumlazgrin.a; of C's library it needs memcpy and memset only.
+ * serialised form and of the readable notation, on bytes that the caller lends. Link libumlazgrin.a; of C's library it needs memcpy
+ * and memset only.
  *
- * Each function returns 0 for an answer, or the number of a refusal (1 to 14; the matcher also 100 and 101). What it leaves behind
+ * Each function returns 0 for an answer, or the number of a refusal (1 to 16; the matcher also 100 and 101). What it leaves behind
  * is proved of it, for all inputs:
  *   - an answer fills in *report and writes the first bytes of out, as many as the report says, and none after them;
  *   - any other return leaves out and *report as they came in;
  *   - room is all zero after every return but refusal 1, which leaves it as it came in. What it holds before does not matter.
  *
  * Checked here: every length. A room that is short is refusal 1, a result that does not fit refusal 14, a form that is too long,
- * cut off or damaged 2 to 6. Any bytes may be passed as a form.
+ * cut off or damaged 2 to 6, a text that is too long 16, one that does not parse 15. Any bytes may be passed as a form or as a text.
  *
  * The caller's duty, which nothing checks:
- *   - a pointer has as many bytes behind it as its length says, readable (form, forms) or readable and writable (room, out);
+ *   - a pointer has as many bytes behind it as its length says, readable (form, forms, text, texts) or readable and writable (room, out);
  *     with length 0 it is never followed and may be null;
  *   - report points to a whole report, aligned as its type is; it is never null;
- *   - room, out and *report do not overlap each other, and neither overlaps form; no other thread uses them during the call;
+ *   - room, out and *report do not overlap each other, and none overlaps the form or text; no other thread uses them during the call;
  *   - the calling thread has 4 MiB of stack left (README.md says what was measured).
  * There is no state between calls, nothing is allocated, and threads may call at once with room of their own. */
 #ifndef UMLAZGRIN_H
@@ -31,13 +32,16 @@ extern "C" {
 #define UMLAZGRIN_ROOM 65536
 /* Bytes in a form, at most. */
 #define UMLAZGRIN_FORM 8192
-/* Bytes of output that the program lends. A finished tree can be longer: its parts may be shared, and are written out. */
+/* Bytes in a text, at most. The text of every form that is read is shorter. */
+#define UMLAZGRIN_TEXT 32768
+/* Bytes of output that the programs lend, also for text. A finished tree or a value can be longer: its parts may be shared, and are
+ * written out. */
 #define UMLAZGRIN_OUTPUT 32768
 
 enum umlazgrin_number {
     UMLAZGRIN_ANSWERED = 0,
     UMLAZGRIN_ROOM_SMALL = 1,       /* lent working room too small */
-    UMLAZGRIN_FORM_LONG = 2,        /* form over 8,192 bytes */
+    UMLAZGRIN_FORM_LONG = 2,        /* form over 8,192 bytes; of a text, the form of its tree */
     UMLAZGRIN_ENDS_EARLY = 3,       /* form ends early; the empty form too */
     UMLAZGRIN_BAD_PREFIX = 4,       /* prefix not carried, or not the shortest form */
     UMLAZGRIN_ATOM_LONG = 5,        /* atom over 64 bytes */
@@ -50,6 +54,8 @@ enum umlazgrin_number {
     UMLAZGRIN_PASSES_OUT = 12,      /* a 65,537th pass */
     UMLAZGRIN_TOO_DEEP = 13,        /* a driver call at nesting 65 */
     UMLAZGRIN_OUTPUT_SHORT = 14,    /* result longer than the output */
+    UMLAZGRIN_NO_PARSE = 15,        /* text that does not parse; the empty text too */
+    UMLAZGRIN_TEXT_LONG = 16,       /* text over 32,768 bytes */
     UMLAZGRIN_NO_MATCH = 100,       /* the matcher only: no refusal, the expression is not of the pattern's shape */
     UMLAZGRIN_TOO_MANY_NAMES = 101  /* the matcher only: no refusal, the pattern asks for a third name */
 };
@@ -84,6 +90,27 @@ uint8_t umlazgrin_check(const uint8_t *form, size_t form_length, uint8_t *room, 
 /* Reads the form and writes its tree again: the same bytes. */
 uint8_t umlazgrin_write(const uint8_t *form, size_t form_length, uint8_t *room, size_t room_length,
                         uint8_t *out, size_t out_length, struct umlazgrin_written *report);
+
+/* The four functions of the readable notation. A text is bytes and a length, in and out: no zero byte ends it. Refusals of a text come
+ * in this order: 1, 16, 15, 2, then 5 and 7 as in the form of its tree; then those of the work, and 14 last. Of two texts the first is
+ * read whole before the second. */
+
+/* Reads the text and writes the serialised form of its tree to out: at most UMLAZGRIN_FORM bytes. */
+uint8_t umlazgrin_read_text(const uint8_t *text, size_t text_length, uint8_t *room, size_t room_length,
+                            uint8_t *out, size_t out_length, struct umlazgrin_written *report);
+
+/* Reads the form and writes its tree to out as text, which umlazgrin_read_text makes the same form of. */
+uint8_t umlazgrin_write_text(const uint8_t *form, size_t form_length, uint8_t *room, size_t room_length,
+                             uint8_t *out, size_t out_length, struct umlazgrin_written *report);
+
+/* Optimises the text's tree and writes the finished tree to out as text, however long its form would be. */
+uint8_t umlazgrin_optimise_text(const uint8_t *text, size_t text_length, uint8_t *room, size_t room_length,
+                                uint8_t *out, size_t out_length, struct umlazgrin_optimised *report);
+
+/* Evaluates the program, whose text is the first bytes of texts, in the environment, whose text is the bytes after them; writes the
+ * value to out as text, however long its form would be. */
+uint8_t umlazgrin_evaluate_text(const uint8_t *texts, size_t texts_length, size_t first, uint8_t *room, size_t room_length,
+                                uint8_t *out, size_t out_length, struct umlazgrin_evaluated *report);
 
 #ifdef __cplusplus
 }

@@ -1,7 +1,7 @@
 //! The functions as they are proved: on slices that the caller lends. Nothing is allocated.
 //!
 //! Every refusal leaves `out` as it came in. An answer writes the first bytes of `out`, as many as it says, and none after
-//! them. `room` is all zero after every return but [`Refusal::RoomSmall`], which leaves it as it came in.
+//! them. `room` is all zero after every return but [`Refusal::RoomSmall`], which leaves it as it came in. A text is any bytes.
 
 use crate::raw;
 use crate::refusal::Refusal;
@@ -120,4 +120,59 @@ pub fn write(form: &[u8], room: &mut [u8], out: &mut [u8]) -> Result<Written, Re
     refused(number)?;
     let [length, units] = report;
     Ok(Written { length, units })
+}
+
+// ---- the notation
+
+/// The serialised form of the text's tree.
+pub fn read_text(text: &[u8], room: &mut [u8], out: &mut [u8]) -> Result<Written, Refusal> {
+    let mut report = [0; 2];
+    let number = unsafe {
+        raw::umlazgrin_read_text(
+            text.as_ptr(), text.len(), room.as_mut_ptr(), room.len(), out.as_mut_ptr(), out.len(), &mut report,
+        )
+    };
+    refused(number)?;
+    let [length, units] = report;
+    Ok(Written { length, units })
+}
+
+/// The form's tree written as text.
+pub fn write_text(form: &[u8], room: &mut [u8], out: &mut [u8]) -> Result<Written, Refusal> {
+    let mut report = [0; 2];
+    let number = unsafe {
+        raw::umlazgrin_write_text(
+            form.as_ptr(), form.len(), room.as_mut_ptr(), room.len(), out.as_mut_ptr(), out.len(), &mut report,
+        )
+    };
+    refused(number)?;
+    let [length, units] = report;
+    Ok(Written { length, units })
+}
+
+/// The text's tree, optimised and written as text to the front of `out`.
+pub fn optimise_text(text: &[u8], room: &mut [u8], out: &mut [u8]) -> Result<Optimised, Refusal> {
+    let mut report = [0; 4];
+    let number = unsafe {
+        raw::umlazgrin_optimise_text(
+            text.as_ptr(), text.len(), room.as_mut_ptr(), room.len(), out.as_mut_ptr(), out.len(), &mut report,
+        )
+    };
+    refused(number)?;
+    let [length, passes, units, mark] = report;
+    Ok(Optimised { length, passes, units, mark: mark == 1 })
+}
+
+/// The value, as text, of the program, whose text is the bytes of `texts` before `first`, in the environment, whose text is those
+/// from there on.
+pub fn evaluate_text(texts: &[u8], first: usize, room: &mut [u8], out: &mut [u8]) -> Result<Evaluated, Refusal> {
+    let mut report = [0; 3];
+    let number = unsafe {
+        raw::umlazgrin_evaluate_text(
+            texts.as_ptr(), texts.len(), first, room.as_mut_ptr(), room.len(), out.as_mut_ptr(), out.len(), &mut report,
+        )
+    };
+    refused(number)?;
+    let [length, steps, units] = report;
+    Ok(Evaluated { length, steps, units })
 }

@@ -1,5 +1,5 @@
-//! The classic Chialisp optimiser (stage 2), an evaluator, a matcher and a reader of the serialised form, each proved in
-//! Rattle to meet its contract, as a safe Rust library.
+//! The classic Chialisp optimiser (stage 2), an evaluator, a matcher and a reader of the serialised form and of the readable
+//! notation, each proved in Rattle to meet its contract, as a safe Rust library.
 //!
 //! [`Umlazgrin`] owns the working room and an output and hands out owned answers; [`lent`] has the functions on slices that
 //! the caller lends. Give a thread that calls them 4 MiB of stack: the most
@@ -10,6 +10,8 @@
 //! let answer = u.optimise(&[0xff, 0x05, 0xff, 0x01, 0x80])?; // (f 1)
 //! assert_eq!((answer.tree, answer.passes, answer.units, answer.mark), (vec![2], 1, 31, false));
 //! assert_eq!(u.optimise(&[0x81, 0x05]).unwrap_err().number(), 4);
+//! assert_eq!(u.optimise_text("(f (c 3 2))")?.text, "0x03");
+//! assert_eq!(u.optimise_text("(f (c 3 2)").unwrap_err().number(), 15);
 //! # Ok::<(), umlazgrin::Refusal>(())
 //! ```
 
@@ -23,6 +25,8 @@ pub use refusal::Refusal;
 pub const ROOM: usize = 65_536;
 /// Bytes in a form, at most.
 pub const FORM: usize = 8_192;
+/// Bytes in a text, at most.
+pub const TEXT: usize = 32_768;
 /// Bytes of output, where the caller does not choose otherwise.
 pub const OUTPUT: usize = 32_768;
 
@@ -40,6 +44,23 @@ pub struct Answer {
 #[derive(Clone, Debug, PartialEq, Eq)]
 pub struct Value {
     pub tree: Vec<u8>,
+    pub steps: usize,
+    pub units: usize,
+}
+
+/// A finished tree as text, and what the run took. `mark` is as in [`Answer`].
+#[derive(Clone, Debug, PartialEq, Eq)]
+pub struct TextAnswer {
+    pub text: String,
+    pub passes: usize,
+    pub units: usize,
+    pub mark: bool,
+}
+
+/// A program's value as text, and what evaluating it took.
+#[derive(Clone, Debug, PartialEq, Eq)]
+pub struct TextValue {
+    pub text: String,
     pub steps: usize,
     pub units: usize,
 }
@@ -117,5 +138,36 @@ impl Umlazgrin {
     pub fn write(&mut self, form: &[u8]) -> Result<Vec<u8>, Refusal> {
         let r = lent::write(form, &mut self.room, &mut self.out)?;
         Ok(self.out[..r.length].to_vec())
+    }
+
+    /// The serialised form of the text's tree. A text is any bytes, a `&str` too.
+    pub fn read_text(&mut self, text: impl AsRef<[u8]>) -> Result<Vec<u8>, Refusal> {
+        let r = lent::read_text(text.as_ref(), &mut self.room, &mut self.out)?;
+        Ok(self.out[..r.length].to_vec())
+    }
+
+    /// The form's tree as text: [`Umlazgrin::read_text`] makes the same form of it.
+    pub fn write_text(&mut self, form: &[u8]) -> Result<String, Refusal> {
+        let r = lent::write_text(form, &mut self.room, &mut self.out)?;
+        Ok(self.written(r.length))
+    }
+
+    pub fn optimise_text(&mut self, text: impl AsRef<[u8]>) -> Result<TextAnswer, Refusal> {
+        let r = lent::optimise_text(text.as_ref(), &mut self.room, &mut self.out)?;
+        Ok(TextAnswer { text: self.written(r.length), passes: r.passes, units: r.units, mark: r.mark })
+    }
+
+    pub fn evaluate_text(
+        &mut self, program: impl AsRef<[u8]>, environment: impl AsRef<[u8]>,
+    ) -> Result<TextValue, Refusal> {
+        let program = program.as_ref();
+        let texts = [program, environment.as_ref()].concat();
+        let r = lent::evaluate_text(&texts, program.len(), &mut self.room, &mut self.out)?;
+        Ok(TextValue { text: self.written(r.length), steps: r.steps, units: r.units })
+    }
+
+    /// The writer has brackets, spaces, dots, names and hex digits only.
+    fn written(&self, length: usize) -> String {
+        String::from_utf8(self.out[..length].to_vec()).expect("a written text is ASCII")
     }
 }

@@ -21,4 +21,20 @@ extern "C" {
         form: *const u8, form_length: usize, room: *mut u8, room_length: usize, out: *mut u8, out_length: usize,
         report: *mut [usize; 2],
     ) -> u8;
+    pub fn umlazgrin_read_text(
+        text: *const u8, text_length: usize, room: *mut u8, room_length: usize, out: *mut u8, out_length: usize,
+        report: *mut [usize; 2],
+    ) -> u8;
+    pub fn umlazgrin_write_text(
+        form: *const u8, form_length: usize, room: *mut u8, room_length: usize, out: *mut u8, out_length: usize,
+        report: *mut [usize; 2],
+    ) -> u8;
+    pub fn umlazgrin_optimise_text(
+        text: *const u8, text_length: usize, room: *mut u8, room_length: usize, out: *mut u8, out_length: usize,
+        report: *mut [usize; 4],
+    ) -> u8;
+    pub fn umlazgrin_evaluate_text(
+        texts: *const u8, texts_length: usize, first: usize, room: *mut u8, room_length: usize, out: *mut u8,
+        out_length: usize, report: *mut [usize; 3],
+    ) -> u8;
 }

@@ -1,9 +1,9 @@
-//! The fourteen refusals, each with its number.
+//! The sixteen refusals, each with its number.
 
 use std::error::Error;
 use std::fmt;
 
-/// Why a form was not answered. The numbers are part of what is promised: `Refusal::Fails as u8` is 8.
+/// Why a form or a text was not answered. The numbers are part of what is promised: `Refusal::Fails as u8` is 8.
 #[derive(Clone, Copy, Debug, PartialEq, Eq, PartialOrd, Ord, Hash)]
 #[repr(u8)]
 pub enum Refusal {
@@ -21,15 +21,17 @@ pub enum Refusal {
     PassesOut = 12,
     TooDeep = 13,
     OutputShort = 14,
+    NoParse = 15,
+    TextLong = 16,
 }
 
 use Refusal::*;
 
 impl Refusal {
     /// All of them, in the order of their numbers.
-    pub const ALL: [Refusal; 14] = [
+    pub const ALL: [Refusal; 16] = [
         RoomSmall, FormLong, EndsEarly, BadPrefix, AtomLong, BytesAfter, UnitsOut, Fails, NoOperator, StepsOut, PathLong,
-        PassesOut, TooDeep, OutputShort,
+        PassesOut, TooDeep, OutputShort, NoParse, TextLong,
     ];
 
     pub fn number(self) -> u8 {
@@ -56,6 +58,8 @@ impl Refusal {
             PassesOut => "a 65,537th pass",
             TooDeep => "a driver call at nesting 65",
             OutputShort => "result longer than the output",
+            NoParse => "text that does not parse",
+            TextLong => "text over 32,768 bytes",
         }
     }
 }

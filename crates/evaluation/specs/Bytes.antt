@@ -6,8 +6,9 @@ use Rattle.refusals.specs.Numbers.{number-of}
 use Rattle.meaning.specs.Tree.{Tree}
 use Rattle.meaning.specs.Meter.{Out, done, stop, Steps}
 use Rattle.meaning.specs.Evaluate.{evaluate}
+use Rattle.meaning.specs.Form.{Reading}
 use Rattle.meaning.specs.Outcome.{Outcome, plain, deliver-tree, ended, in-room, Told, values, number}
-use Rattle.form.specs.Both.{read-both}
+use Rattle.form.specs.Both.{Both, read-both}
 use Rattle.evaluation.specs.declared.EvalAnswer.{EvalAnswer}
 use Rattle.evaluation.specs.declared.EvalAnswer.the-variants.{Value, Refused}
 
@@ -15,13 +16,16 @@ use Rattle.evaluation.specs.declared.EvalAnswer.the-variants.{Value, Ref
 abbrev pub at-units : ℕ → Steps
 at-units u = record { steps = 0; units = u }
 
+-- the program that was read is evaluated in the environment that was read, or the reader's refusal
+unfoldable pub worked-on : Out Reading Both → Out Steps Tree
+unfolding evaluate
+worked-on (done b r) = evaluate (b .one) (b .other) (at-units (r .units))
+worked-on (stop n r) = stop n (at-units (r .units))
+
 -- both forms are read, on one budget; and then the program is evaluated
 unfoldable pub worked : List ℕ → List ℕ → Out Steps Tree
-unfolding read-both evaluate
-worked program environment = elim (read-both program environment) [
-  | done b r ↦ evaluate (b .one) (b .other) (at-units (r .units))
-  | stop n r ↦ stop n (at-units (r .units))
-]
+unfolding read-both worked-on
+worked program environment = worked-on (read-both program environment)
 
 -- the value written: length, steps and units
 unfoldable pub delivered : ℕ → Tree → Steps → Outcome

@@ -22,7 +22,7 @@ pub enum EvalAnswer {
 }
 
 // Reads the program, the first bytes, and then the environment, what follows them; and evaluates.
-fn work(forms: &[u8], room: &mut [u8], first: usize) -> Valued
+pub fn work(forms: &[u8], room: &mut [u8], first: usize) -> Valued
     requires { ⌜ room-least ≤ length (now room) ⌝ }
     ensures { λ r. ⌜ WorkedOk (now (forms .entry)) (now (room .exit)) (worked (take first (now (forms .entry))) (drop first (now (forms .entry)))) r ⌝ }
 {

@@ -438,7 +438,7 @@ pub fn read_two(forms: &[u8], room: &mut [u8], first: usize) -> Two
 // ---- on bytes alone
 
 // Reads the form, in a room that has been started.
-fn read_whole(form: &[u8], room: &mut [u8]) -> Made
+pub fn read_whole(form: &[u8], room: &mut [u8]) -> Made
     requires { ⌜ room-least ≤ length (now room) ⌝ }
     ensures { λ r. ⌜ WholeOk (now (form .entry)) (now (room .exit)) r ⌝ }
 {

@@ -36,7 +36,7 @@ module _ {A : Type 0} (tells : A → Told) (o : Outcome) (s s₁ w w₁ q : List
     out = h .delivers .out;
   }
 
--- ---- optimise
+-- ---- optimise, from a form or a text
 
 -- a bool as a number is the mark's
 mark-byte : (b : Bool) → boolByte b ≡ mark-number b
@@ -53,7 +53,7 @@ module _ (o : Outcome) (s s₁ w w₁ q : List ℕ) (a : Answer) (h : Settles op
   unfolding optimiser.says number-told report-told
   optimise-done r i = reported optimiser.says o s s₁ w w₁ q a (Answered r) h i _ 0 refl (ap (λ (m : ℕ). r .length ∷ r .passes ∷ r .units ∷ m ∷ []) (mark-byte (r .mark)))
 
--- ---- evaluate
+-- ---- evaluate, from forms or texts
 
 module _ (o : Outcome) (s s₁ w w₁ q : List ℕ) (a : EvalAnswer) (h : Settles evaluation.says o s s₁ w w₁ a) where
   pub evaluate-refused : (e : Refusal) (n : ℕ) → a ≡ not-evaluated e → n ≡ number-of e → Reports o s s₁ w w₁ q q n
@@ -94,7 +94,7 @@ module _ (o : Outcome) (s s₁ w w₁ q : List ℕ) (a : ReadAnswer) (h : Settle
   unfolding read-says number-told report-told
   check-done units i = reported read-says o s s₁ w w₁ q a (Read units) h i _ 0 refl refl
 
--- ---- write
+-- ---- write, as a form or as text, and reading a text into a form
 
 module _ (o : Outcome) (s s₁ w w₁ q : List ℕ) (a : WriteAnswer) (h : Settles write-says o s s₁ w w₁ a) where
   pub write-refused : (e : Refusal) (n : ℕ) → a ≡ not-written e → n ≡ number-of e → Reports o s s₁ w w₁ q q n

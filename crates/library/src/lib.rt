@@ -11,6 +11,7 @@ ghost use mathlib.Core.List.{[]};
 ghost use Rattle.form.specs.Bytes as forms;
 ghost use Rattle.evaluation.specs.Bytes as evaluation;
 ghost use Rattle.matcher.specs.Outcome as matcher;
+ghost use Rattle.texts.specs.Outcomes as notation;
 ghost use Rattle.library.specs.Reports.{Reports};
 
 // What the matcher returns beside the refusals' numbers.
@@ -107,6 +108,85 @@ pub extern "C" fn umlazgrin_write(
         WriteAnswer::Refused(e) => refusals::number_of(e),
         WriteAnswer::Written(length, units) => {
             *report = [length, units];
+            0
+        }
+    }
+}
+
+// ---- the notation
+
+// Reads the text and writes its tree as a form. report: length, units.
+#[no_mangle]
+pub extern "C" fn umlazgrin_read_text(
+    text: &[u8],
+    room: &mut [u8],
+    out: &mut [u8],
+    report: &mut [usize; 2],
+) -> u8
+    ensures { λ n. ⌜ Reports (notation.read-text-outcome (now (text .entry)) (length (now (room .entry))) (length (now (out .entry)))) (now (room .entry)) (now (room .exit)) (now (out .entry)) (now (out .exit)) (now (report .entry)) (now (report .exit)) n ⌝ }
+{
+    match umlazgrin::read_text(text, room, out) {
+        WriteAnswer::Refused(e) => refusals::number_of(e),
+        WriteAnswer::Written(length, units) => {
+            *report = [length, units];
+            0
+        }
+    }
+}
+
+// Reads the form and writes its tree as text. report: length, units.
+#[no_mangle]
+pub extern "C" fn umlazgrin_write_text(
+    form: &[u8],
+    room: &mut [u8],
+    out: &mut [u8],
+    report: &mut [usize; 2],
+) -> u8
+    ensures { λ n. ⌜ Reports (notation.write-text-outcome (now (form .entry)) (length (now (room .entry))) (length (now (out .entry)))) (now (room .entry)) (now (room .exit)) (now (out .entry)) (now (out .exit)) (now (report .entry)) (now (report .exit)) n ⌝ }
+{
+    match umlazgrin::write_text(form, room, out) {
+        WriteAnswer::Refused(e) => refusals::number_of(e),
+        WriteAnswer::Written(length, units) => {
+            *report = [length, units];
+            0
+        }
+    }
+}
+
+// From text to text. report: length, passes, units, mark.
+#[no_mangle]
+pub extern "C" fn umlazgrin_optimise_text(
+    text: &[u8],
+    room: &mut [u8],
+    out: &mut [u8],
+    report: &mut [usize; 4],
+) -> u8
+    ensures { λ n. ⌜ Reports (notation.optimise-text-outcome (now (text .entry)) (length (now (room .entry))) (length (now (out .entry)))) (now (room .entry)) (now (room .exit)) (now (out .entry)) (now (out .exit)) (now (report .entry)) (now (report .exit)) n ⌝ }
+{
+    match umlazgrin::optimise_text(text, room, out) {
+        Answer::Refused(e) => refusals::number_of(e),
+        Answer::Answered(a) => {
+            *report = [a.length, a.passes, a.units, a.mark as usize];
+            0
+        }
+    }
+}
+
+// From text to text. report: length, steps, units.
+#[no_mangle]
+pub extern "C" fn umlazgrin_evaluate_text(
+    texts: &[u8],
+    first: usize,
+    room: &mut [u8],
+    out: &mut [u8],
+    report: &mut [usize; 3],
+) -> u8
+    ensures { λ n. ⌜ Reports (notation.evaluate-text-outcome (now (texts .entry)) first (length (now (room .entry))) (length (now (out .entry)))) (now (room .entry)) (now (room .exit)) (now (out .entry)) (now (out .exit)) (now (report .entry)) (now (report .exit)) n ⌝ }
+{
+    match umlazgrin::evaluate_text(texts, first, room, out) {
+        EvalAnswer::Refused(e) => refusals::number_of(e),
+        EvalAnswer::Value(length, steps, units) => {
+            *report = [length, steps, units];
             0
         }
     }

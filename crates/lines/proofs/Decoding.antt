@@ -1,4 +1,4 @@
--- What a line read in parts stands for is what `decode` says of all its bytes.
+-- What a line read in parts stands for: what `decode` says of all its bytes, or these bytes as they stand. Assumes nothing.
 use mathlib.Core.Path.{_≡_, refl, sym, _∙_, ap}
 use mathlib.Core.Bool.{Bool, true, false}
 use mathlib.Core.Option.{Option, some, none}
@@ -11,6 +11,8 @@ use lib.Seq.{take-all, take-append-le}
 use borrow.Author.Tests.{ltb-true, ltb-false, lt-ltb}
 use Rattle.io.specs.Digits.{glyph}
 use Rattle.lines.specs.declared.read.Got.the-variants.{Form, Bad}
+use Rattle.lines.specs.declared.read.Spelling.{Spelling}
+use Rattle.lines.specs.declared.read.Spelling.the-variants.{Hex, Raw}
 use Rattle.lines.specs.Hex.{digit-of, before, two-before, decode, hex-of}
 use Rattle.lines.specs.Line.{Seen, keep, more, judged, Walked, walk}
 use Rattle.lines.proofs.Reading as reading
@@ -25,10 +27,10 @@ Plain [] = Unit {0}
 Plain (x ∷ xs) = (eqb x 10 ≡ false) × Plain xs
 
 -- the line after all of some bytes
-unfoldable pub through : ℕ → Seen → List ℕ → Seen
+unfoldable pub through : Spelling → ℕ → Seen → List ℕ → Seen
 unfolding more
-through most s [] = s
-through most s (x ∷ xs) = through most (more most s x) xs
+through how most s [] = s
+through how most s (x ∷ xs) = through how most (more how most s x) xs
 
 -- nothing of a line yet
 abbrev pub begun : Seen
@@ -40,35 +42,35 @@ Stands most none s = judged (s .half) (s .bad) ≡ Bad
 Stands most (some bs) s = (judged (s .half) (s .bad) ≡ Form) × (s .bytes ≡ take most bs)
 
 -- a line may come in parts
-pub parts : (most : ℕ) (s : Seen) (at : ℕ) (xs ys : List ℕ) → Plain xs → walk most s at (xs ++ ys) ≡ walk most (through most s xs) (at + length xs) ys
+pub parts : (how : Spelling) (most : ℕ) (s : Seen) (at : ℕ) (xs ys : List ℕ) → Plain xs → walk how most s at (xs ++ ys) ≡ walk how most (through how most s xs) (at + length xs) ys
 unfolding walk through
-parts most s at [] ys p = ap (λ (k : ℕ). walk most s k ys) (omega arith)
-parts most s at (x ∷ xs) ys p =
+parts how most s at [] ys p = ap (λ (k : ℕ). walk how most s k ys) (omega arith)
+parts how most s at (x ∷ xs) ys p =
     let e : at + 1 + length xs ≡ at + length (x ∷ xs) = omega arith in
-    rw (p .0, walk) (parts most (more most s x) (at + 1) xs ys (p .1) ∙ ap (λ (k : ℕ). walk most (through most (more most s x) xs) k ys) e)
+    rw (p .0, walk) (parts how most (more how most s x) (at + 1) xs ys (p .1) ∙ ap (λ (k : ℕ). walk how most (through how most (more how most s x) xs) k ys) e)
 
 module _ (most : ℕ) (s : Seen) (x : ℕ) where
-  other : ltb (digit-of x) 16 ≡ false → more most s x ≡ record { bytes = s .bytes; half = s .half; bad = true }
+  other : ltb (digit-of x) 16 ≡ false → more Hex most s x ≡ record { bytes = s .bytes; half = s .half; bad = true }
   unfolding more
   other e = rw (e, more)
 
-  first : ltb (digit-of x) 16 ≡ true → ltb (s .half) 16 ≡ false → more most s x ≡ record { bytes = s .bytes; half = digit-of x; bad = s .bad }
+  first : ltb (digit-of x) 16 ≡ true → ltb (s .half) 16 ≡ false → more Hex most s x ≡ record { bytes = s .bytes; half = digit-of x; bad = s .bad }
   unfolding more
   first e h = rw (e, h, more)
 
-  second : ltb (digit-of x) 16 ≡ true → ltb (s .half) 16 ≡ true → more most s x ≡ record { bytes = keep most (s .bytes) (s .half * 16 + digit-of x); half = 16; bad = s .bad }
+  second : ltb (digit-of x) 16 ≡ true → ltb (s .half) 16 ≡ true → more Hex most s x ≡ record { bytes = keep most (s .bytes) (s .half * 16 + digit-of x); half = 16; bad = s .bad }
   unfolding more
   second e h = rw (e, h, more)
 
-  more-bad : s .bad ≡ true → more most s x .bad ≡ true
+  more-bad : s .bad ≡ true → more Hex most s x .bad ≡ true
   more-bad b = on-bool (ltb (digit-of x) 16)
       (λ e. on-bool (ltb (s .half) 16) (λ h. ap (λ (z : Seen). z .bad) (second e h) ∙ b) (λ h. ap (λ (z : Seen). z .bad) (first e h) ∙ b))
       (λ e. ap (λ (z : Seen). z .bad) (other e))
 
-bad-stays : (most : ℕ) (s : Seen) (xs : List ℕ) → s .bad ≡ true → judged (through most s xs .half) (through most s xs .bad) ≡ Bad
+bad-stays : (most : ℕ) (s : Seen) (xs : List ℕ) → s .bad ≡ true → judged (through Hex most s xs .half) (through Hex most s xs .bad) ≡ Bad
 unfolding through judged
 bad-stays most s [] b = rw (b, judged)
-bad-stays most s (x ∷ xs) b = bad-stays most (more most s x) xs (more-bad most s x b)
+bad-stays most s (x ∷ xs) b = bad-stays most (more Hex most s x) xs (more-bad most s x b)
 
 -- the bytes kept are the first of all
 keep-first : (most : ℕ) (acc : List ℕ) (x : ℕ) → keep most (take most acc) x ≡ take most (acc ++ (x ∷ []))
@@ -105,7 +107,7 @@ module _ (x y : ℕ) (others : Option (List ℕ)) where
   unfolding two-before
   second-other p q = rw (p, q, two-before)
 
-goes : (most : ℕ) (acc line : List ℕ) → Stands most (after acc (decode line)) (through most (record { bytes = take most acc; half = 16; bad = false }) line)
+goes : (most : ℕ) (acc line : List ℕ) → Stands most (after acc (decode line)) (through Hex most (record { bytes = take most acc; half = 16; bad = false }) line)
 unfolding decode after through judged
 goes most acc [] = (refl, ap (take most) (sym (append-nil acc)))
 goes most acc (a ∷ []) =
@@ -120,8 +122,8 @@ goes most acc (a ∷ b ∷ line) =
     (λ p. on-bool (ltb (digit-of b) 16)
     (λ q. rw (both-digits (digit-of a) (digit-of b) (decode line) p q, after-before acc (digit-of a * 16 + digit-of b) (decode line), first most s a p refl, second most t b q p, keep-first most acc (digit-of a * 16 + digit-of b))
     (goes most (acc ++ ((digit-of a * 16 + digit-of b) ∷ [])) line))
-    (λ q. rw (second-other (digit-of a) (digit-of b) (decode line) p q) (bad-stays most (more most (more most s a) b) line (rw (other most (more most s a) b q) refl))))
-    (λ p. rw (first-other (digit-of a) (digit-of b) (decode line) p) (bad-stays most (more most (more most s a) b) line (more-bad most (more most s a) b (rw (other most s a p) refl))))
+    (λ q. rw (second-other (digit-of a) (digit-of b) (decode line) p q) (bad-stays most (more Hex most (more Hex most s a) b) line (rw (other most (more Hex most s a) b q) refl))))
+    (λ p. rw (first-other (digit-of a) (digit-of b) (decode line) p) (bad-stays most (more Hex most (more Hex most s a) b) line (more-bad most (more Hex most s a) b (rw (other most s a p) refl))))
 
 after-none : (o : Option (List ℕ)) → after [] o ≡ o
 unfolding after
@@ -131,7 +133,7 @@ after-none (some bs) = refl
 take-none : (most : ℕ) → _≡_ {A = List ℕ} (take most []) []
 take-none most = take-all most [] (omega arith)
 
-read-as : (most : ℕ) (line : List ℕ) → Stands most (decode line) (through most begun line)
+read-as : (most : ℕ) (line : List ℕ) → Stands most (decode line) (through Hex most begun line)
 read-as most line = rw (after-none (decode line), take-none most) at (goes most [] line)
 
 -- a whole line and its newline: where reading stands, and what was read
@@ -140,13 +142,35 @@ pub record Whole (most at : ℕ) (line : List ℕ) (w : Walked) : Type 0 where
   pub place : w .at ≡ at + length line + 1
   pub stands : Stands most (decode line) (w .seen)
 
-pub whole : (most at : ℕ) (line rest : List ℕ) → Plain line → Whole most at line (walk most begun at (line ++ (10 ∷ rest)))
+pub whole : (most at : ℕ) (line rest : List ℕ) → Plain line → Whole most at line (walk Hex most begun at (line ++ (10 ∷ rest)))
 unfolding walk
 whole most at line rest p =
-    let stood : Stands most (decode line) (through most begun line) = read-as most line in
-    rw (parts most begun at line (10 ∷ rest) p) (record { ended = refl; place = refl; stands = stood })
+    let stood : Stands most (decode line) (through Hex most begun line) = read-as most line in
+    rw (parts Hex most begun at line (10 ∷ rest) p) (record { ended = refl; place = refl; stands = stood })
 
--- what is printed in hex reads back
+-- ---- a line as it stands
+
+-- nothing is bad of it, and no digit waits
+raw-goes : (most : ℕ) (acc line : List ℕ) → through Raw most (record { bytes = take most acc; half = 16; bad = false }) line ≡ record { bytes = take most (acc ++ line); half = 16; bad = false }
+unfolding through more
+raw-goes most acc [] = ap (λ (l : List ℕ). record { bytes = take most l; half = 16; bad = false }) (sym (append-nil acc))
+raw-goes most acc (x ∷ line) = rw (keep-first most acc x, ← append-assoc acc (x ∷ []) line) (raw-goes most (acc ++ (x ∷ [])) line)
+
+-- a whole line and its newline: where reading stands, and its bytes, the first of them where there are more than `most`
+pub record WholeRaw (most at : ℕ) (line : List ℕ) (w : Walked) : Type 0 where
+  pub ended : w .ended ≡ true
+  pub place : w .at ≡ at + length line + 1
+  pub form : judged (w .seen .half) (w .seen .bad) ≡ Form
+  pub bytes : w .seen .bytes ≡ take most line
+
+pub whole-raw : (most at : ℕ) (line rest : List ℕ) → Plain line → WholeRaw most at line (walk Raw most begun at (line ++ (10 ∷ rest)))
+unfolding walk judged
+whole-raw most at line rest p =
+    let stood : through Raw most begun line ≡ record { bytes = take most line; half = 16; bad = false } = rw (take-none most) at (raw-goes most [] line) in
+    rw (parts Raw most begun at line (10 ∷ rest) p, stood) (record { ended = refl; place = refl; form = refl; bytes = refl })
+
+-- ---- what is printed in hex reads back
+
 digit-glyph : (d : ℕ) → d < 16 → digit-of (glyph d) ≡ d
 digit-glyph d h =
     on-bool (ltb d 10)

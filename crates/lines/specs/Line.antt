@@ -7,6 +7,8 @@ use lib.Dec.{eqb, ltb}
 use lib.ListN.{length, take, drop}
 use Rattle.lines.specs.declared.read.Got.{Got}
 use Rattle.lines.specs.declared.read.Got.the-variants.{Form, Bad, End}
+use Rattle.lines.specs.declared.read.Spelling.{Spelling}
+use Rattle.lines.specs.declared.read.Spelling.the-variants.{Hex, Raw}
 use Rattle.lines.specs.declared.read.Line.{Line}
 use Rattle.lines.specs.declared.read.Lines.{Lines}
 use Rattle.lines.specs.declared.read.Part.{Part}
@@ -28,10 +30,11 @@ shown form l = record { bytes = take (l .n) form; half = l .half; bad = l .bad }
 unfoldable pub keep : ℕ → List ℕ → ℕ → List ℕ
 keep most bs x = elim (ltb (length bs) most) [ true ↦ bs ++ (x ∷ []) | false ↦ bs ]
 
--- one byte more of the line
-unfoldable pub more : ℕ → Seen → ℕ → Seen
+-- one byte more of the line: as it stands; or a hex digit, two of which are a byte
+unfoldable pub more : Spelling → ℕ → Seen → ℕ → Seen
 unfolding digit-of keep
-more most s x =
+more Raw most s x = record { bytes = keep most (s .bytes) x; half = s .half; bad = s .bad }
+more Hex most s x =
     elim (ltb (digit-of x) 16) [
       | true ↦ elim (ltb (s .half) 16) [
         | true ↦ record { bytes = keep most (s .bytes) (s .half * 16 + digit-of x); half = 16; bad = s .bad }
@@ -54,23 +57,23 @@ abbrev pub walked : List ℕ → Part → Walked
 walked form p = record { seen = shown form (p .line); at = p .at; ended = p .ended }
 
 -- the bytes from a place on, up to a newline or their end
-unfoldable pub walk : ℕ → Seen → ℕ → List ℕ → Walked
+unfoldable pub walk : Spelling → ℕ → Seen → ℕ → List ℕ → Walked
 unfolding more
-walk most s at [] = record { seen = s; at = at; ended = false }
-walk most s at (x ∷ xs) =
+walk how most s at [] = record { seen = s; at = at; ended = false }
+walk how most s at (x ∷ xs) =
     elim (eqb x 10) [
       | true ↦ record { seen = s; at = at + 1; ended = true }
-      | false ↦ walk most (more most s x) (at + 1) xs
+      | false ↦ walk how most (more how most s x) (at + 1) xs
     ]
 
 -- what one byte more leaves
-pub record Took (x : ℕ) (form form′ : List ℕ) (l r : Line) : Type 0 where
-  pub shows : shown form′ r ≡ more (length form) (shown form l) x
+pub record Took (how : Spelling) (x : ℕ) (form form′ : List ℕ) (l r : Line) : Type 0 where
+  pub shows : shown form′ r ≡ more how (length form) (shown form l) x
   pub within : r .n ≤ length form′
 
 -- what bytes from a place on leave
-pub record Passed (bytes : List ℕ) (from : ℕ) (form form′ : List ℕ) (l : Line) (p : Part) : Type 0 where
-  pub shows : walked form′ p ≡ walk (length form) (shown form l) from (drop from bytes)
+pub record Passed (how : Spelling) (bytes : List ℕ) (from : ℕ) (form form′ : List ℕ) (l : Line) (p : Part) : Type 0 where
+  pub shows : walked form′ p ≡ walk how (length form) (shown form l) from (drop from bytes)
   pub within : p .line .n ≤ length form′
 
 -- the next line or the next two: the bytes stand within the forms, and what waited still waits or was written

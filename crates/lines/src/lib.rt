@@ -1,5 +1,6 @@
-// What a program needs that reads lines of lower-case hex and prints outcomes. It lends every byte: what reads fill, what a line's
-// digits make, and the text that waits to be written. No contract can say what is read or written: so the contracts say what waits.
+// What a program needs that reads lines, of lower-case hex or as they stand, and prints outcomes. It lends every byte: what reads fill,
+// what a line spells, and the text that waits to be written. No contract can say what is read or written: so the contracts say what
+// waits.
 mod print;
 mod read;
 
@@ -13,6 +14,7 @@ pub use print::print_word;
 pub use print::room_for_line;
 pub use read::Got;
 pub use read::Lines;
+pub use read::Spelling;
 pub use read::left;
 pub use read::next_line;
 pub use read::next_two;

@@ -1,16 +1,24 @@
-// Reading. A program lends the bytes that reads fill, buf, and the bytes that a line's digits make, form; only places and lengths go
-// by value.
+// Reading. A program lends the bytes that reads fill, buf, and the bytes that a line spells, form; only places and lengths go by value.
 use crate::print::flush;
 use libc::STDIN_FILENO;
 ghost use mathlib.Core.Path.{_≡_};
 ghost use Prim.Native.Nat.{_+_, _-_, _^_, _≤_, _<_};
 ghost use lib.ListN.{length};
 ghost use Rattle.io.specs.Counts.{Counts};
+ghost use Rattle.lines.specs.declared.read.Spelling.the-variants.{Hex, Raw};
 ghost use Rattle.lines.specs.Hex.{digit-of};
 ghost use Rattle.lines.specs.Line.{judged, Took, Passed, Came};
 
+// How a line spells bytes.
+pub enum Spelling {
+    // Two lower-case hex digits for each.
+    Hex,
+    // As they stand: all but the newline, a carriage return too.
+    Raw,
+}
+
 pub enum Got {
-    // An even count of lower-case hex digits, none for an empty line.
+    // An even count of lower-case hex digits, none for an empty line; or any line that is raw.
     Form,
     // Any other line.
     Bad,
@@ -29,8 +37,8 @@ pub struct Lines {
     pub got: Got,
 }
 
-// A line so far: form[..n] has the bytes that its digits made, half is the digit that waits for its second (16: none), bad says that
-// another byte was met.
+// A line so far: form[..n] has the bytes that it spelt, half is the digit that waits for its second (16: none), bad says that a byte was
+// met that is no digit.
 struct Line {
     n: usize,
     half: u8,
@@ -55,10 +63,10 @@ fn digit(x: u8) -> u8
     }
 }
 
-// The line after one byte more. What form has no room for is dropped.
-fn with_byte(form: &mut [u8], l: Line, x: u8) -> Line
+// The line after one byte more, of hex. What form has no room for is dropped.
+fn with_digit(form: &mut [u8], l: Line, x: u8) -> Line
     requires { ⌜ l .n ≤ length (now form) ⌝ }
-    ensures { λ r. ⌜ Took x (now (form .entry)) (now (form .exit)) l r ⌝ }
+    ensures { λ r. ⌜ Took Hex x (now (form .entry)) (now (form .exit)) l r ⌝ }
 {
     let d = digit(x);
     let n = l.n;
@@ -88,10 +96,38 @@ fn with_byte(form: &mut [u8], l: Line, x: u8) -> Line
     }
 }
 
-// The line after the bytes from a place on, up to a newline or their end.
-fn with_bytes(bytes: &[u8], from: usize, form: &mut [u8], l: Line) -> Part
+// The line after one byte more, as it stands. What form has no room for is dropped.
+fn with_raw(form: &mut [u8], l: Line, x: u8) -> Line
     requires { ⌜ l .n ≤ length (now form) ⌝ }
-    ensures { λ r. ⌜ Passed (now (bytes .entry)) from (now (form .entry)) (now (form .exit)) l r ⌝ }
+    ensures { λ r. ⌜ Took Raw x (now (form .entry)) (now (form .exit)) l r ⌝ }
+{
+    let n = l.n;
+    if form.len() <= n {
+        return l;
+    }
+    form[n] = x;
+    Line {
+        n: n + 1,
+        half: l.half,
+        bad: l.bad,
+    }
+}
+
+// The line after one byte more.
+fn with_byte(how: Spelling, form: &mut [u8], l: Line, x: u8) -> Line
+    requires { ⌜ l .n ≤ length (now form) ⌝ }
+    ensures { λ r. ⌜ Took how x (now (form .entry)) (now (form .exit)) l r ⌝ }
+{
+    match how {
+        Spelling::Hex => with_digit(form, l, x),
+        Spelling::Raw => with_raw(form, l, x),
+    }
+}
+
+// The line after the bytes from a place on, up to a newline or their end.
+fn with_bytes(how: Spelling, bytes: &[u8], from: usize, form: &mut [u8], l: Line) -> Part
+    requires { ⌜ l .n ≤ length (now form) ⌝ }
+    ensures { λ r. ⌜ Passed how (now (bytes .entry)) from (now (form .entry)) (now (form .exit)) l r ⌝ }
 {
     let mut line = l;
     let mut at = from;
@@ -105,7 +141,7 @@ fn with_bytes(bytes: &[u8], from: usize, form: &mut [u8], l: Line) -> Part
                 ended: true,
             };
         }
-        line = with_byte(form, line, x);
+        line = with_byte(how, form, line, x);
     }
     Part {
         line,
@@ -191,7 +227,7 @@ fn last(l: Line, begun: bool) -> Lines
 }
 
 // The next line: form[..n] has its bytes, or the first of them where form is too short for all.
-pub fn next_line(buf: &mut [u8], form: &mut [u8], text: &[u8], s: Lines) -> Lines
+pub fn next_line(how: Spelling, buf: &mut [u8], form: &mut [u8], text: &[u8], s: Lines) -> Lines
     ensures { λ r. ⌜ Came (now (form .exit)) s r ⌝ }
 {
     let mut line = Line {
@@ -205,7 +241,7 @@ pub fn next_line(buf: &mut [u8], form: &mut [u8], text: &[u8], s: Lines) -> Line
     let mut begun = at < len;
     let mut turns = u64::MAX;
     while 0 < turns {
-        let p = with_bytes(&buf[..len], at, form, line);
+        let p = with_bytes(how, &buf[..len], at, form, line);
         line = p.line;
         at = p.at;
         if p.ended {
@@ -264,11 +300,11 @@ fn both(a: Lines, b: Lines) -> Lines
 
 // The next two lines: forms[..first] has the first one's bytes, and forms[first..n] the second's. A second line that is missing is no
 // line.
-pub fn next_two(buf: &mut [u8], forms: &mut [u8], text: &[u8], s: Lines) -> Lines
+pub fn next_two(how: Spelling, buf: &mut [u8], forms: &mut [u8], text: &[u8], s: Lines) -> Lines
     ensures { λ r. ⌜ Came (now (forms .exit)) s r ⌝ }
 {
-    let a = next_line(buf, forms, text, s);
+    let a = next_line(how, buf, forms, text, s);
     let n = a.n;
-    let b = next_line(buf, &mut forms[n..], text, a);
+    let b = next_line(how, buf, &mut forms[n..], text, a);
     both(a, b)
 }

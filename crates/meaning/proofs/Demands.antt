@@ -3,13 +3,13 @@
 -- What a run is: `run form room-length out-length` (specs/Run.antt), the form's bytes and how much room and output are lent, to
 -- `finished bytes passes units mark` or `refused n`; `out-after` and `room-after` (specs/Outcome.antt) say what every lent byte holds then.
 use Prim.Native.Nat.{ℕ, _≤_}
-use mathlib.Core.Path.{_≡_, refl}
+use mathlib.Core.Path.{_≡_, refl, subst}
 use mathlib.Core.List.{List, []}
 use mathlib.Core.Bool.{Bool, false}
 use lib.ListN.{length}
 use native.Mathlib.Omega.{arith}
 use Rattle.refusals.specs.declared.Refusal.{Refusal}
-use Rattle.refusals.specs.declared.Refusal.the-variants.{RoomSmall, FormLong, EndsEarly, BadPrefix, AtomLong, BytesAfter, UnitsOut, Fails, NoOperator, StepsOut, PathLong, PassesOut, TooDeep, OutputShort}
+use Rattle.refusals.specs.declared.Refusal.the-variants.{RoomSmall, FormLong, EndsEarly, BadPrefix, AtomLong, BytesAfter, UnitsOut, Fails, NoOperator, StepsOut, PathLong, PassesOut, TooDeep, OutputShort, NoParse, TextLong}
 use Rattle.refusals.specs.Numbers.{number-of}
 use Rattle.meaning.specs.Tree.{Tree}
 use Rattle.meaning.specs.Limits.{form-limit, unit-limit}
@@ -21,7 +21,8 @@ use Rattle.meaning.specs.Outcome.{refused, out-after}
 use Rattle.meaning.specs.Run.{finished, run}
 use Rattle.meaning.proofs.ReadWrite.{form-read}
 use Rattle.meaning.proofs.WriteRead.{form-write}
-use Rattle.meaning.proofs.RunLaws.{answer-fits}
+use Rattle.meaning.proofs.Lent.{InTable}
+use Rattle.meaning.proofs.RunLaws.{answer-fits, run-table}
 use Rattle.meaning.proofs.BoundedEval.{evaluated}
 use Rattle.meaning.proofs.Finished.{finished as keeps-values}
 use Rattle.meaning.proofs.FinishedBytes.{finished-bytes}
@@ -29,21 +30,27 @@ use Rattle.meaning.proofs.FinishedBytes.{finished-bytes}
 -- ---- Demand 1. "Every byte string is answered or refused with the number that document 01 gives; every run ends; a refusal writes nothing."
 
 -- `run` is a function, so there is one outcome for every byte string and every lent length, and it ends. A refusal's number is one of 1 to 14.
-pub demand-1-number : (n : Refusal) → (1 ≤ number-of n) × (number-of n ≤ 14)
-demand-1-number RoomSmall = (omega arith, omega arith)
-demand-1-number FormLong = (omega arith, omega arith)
-demand-1-number EndsEarly = (omega arith, omega arith)
-demand-1-number BadPrefix = (omega arith, omega arith)
-demand-1-number AtomLong = (omega arith, omega arith)
-demand-1-number BytesAfter = (omega arith, omega arith)
-demand-1-number UnitsOut = (omega arith, omega arith)
-demand-1-number Fails = (omega arith, omega arith)
-demand-1-number NoOperator = (omega arith, omega arith)
-demand-1-number StepsOut = (omega arith, omega arith)
-demand-1-number PathLong = (omega arith, omega arith)
-demand-1-number PassesOut = (omega arith, omega arith)
-demand-1-number TooDeep = (omega arith, omega arith)
-demand-1-number OutputShort = (omega arith, omega arith)
+pub demand-1-number : (form : List ℕ) (room-length out-length : ℕ) (n : Refusal) → run form room-length out-length ≡ refused n → (1 ≤ number-of n) × (number-of n ≤ 14)
+unfolding InTable
+demand-1-number form room-length out-length n e = (at-least n, subst InTable e (run-table form room-length out-length))
+  where
+    at-least : (n : Refusal) → 1 ≤ number-of n
+    at-least RoomSmall = omega arith
+    at-least FormLong = omega arith
+    at-least EndsEarly = omega arith
+    at-least BadPrefix = omega arith
+    at-least AtomLong = omega arith
+    at-least BytesAfter = omega arith
+    at-least UnitsOut = omega arith
+    at-least Fails = omega arith
+    at-least NoOperator = omega arith
+    at-least StepsOut = omega arith
+    at-least PathLong = omega arith
+    at-least PassesOut = omega arith
+    at-least TooDeep = omega arith
+    at-least OutputShort = omega arith
+    at-least NoParse = omega arith
+    at-least TextLong = omega arith
 
 -- a refusal leaves the output as it came in
 pub demand-1-silent : (n : Refusal) (out : List ℕ) → out-after (refused n) out ≡ out

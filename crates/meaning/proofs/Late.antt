@@ -1,4 +1,4 @@
--- The refusals that leave the room as it came in come from the room alone: reading, evaluating and the driver have none of them. Assumes nothing.
+-- Reading, evaluating and the driver refuse with numbers of 01's table only, and with none that leaves the room as it came in. Assumes nothing.
 use Prim.Native.Nat.{ℕ, zero, suc, _+_, _*_, _-_}
 use mathlib.Core.Path.{_≡_, refl}
 use mathlib.Core.List.{List, [], _∷_}
@@ -8,7 +8,6 @@ use lib.Dec.{ltb, leb, eqb}
 use lib.ListN.{length}
 use Rattle.refusals.specs.declared.Refusal.{Refusal}
 use Rattle.refusals.specs.declared.Refusal.the-variants.{FormLong, EndsEarly, BadPrefix, AtomLong, BytesAfter, UnitsOut, Fails, NoOperator, StepsOut, PassesOut, TooDeep}
-use Rattle.refusals.specs.Numbers.{leaves-room}
 use Rattle.meaning.specs.Tree.{Tree, atom, pair, nil, byte, is-empty, proper-list}
 use Rattle.meaning.specs.Number.{number, lookup}
 use Rattle.meaning.specs.Limits.{form-limit, unit-limit, step-limit, pass-limit, pair-cost}
@@ -17,14 +16,14 @@ use Rattle.meaning.specs.Form.{Reading, limits, first-of, next, more, si
 use Rattle.meaning.specs.Operator.{Op, Head, quoted, op, other, head-of, takes, Made, makes, runs, cannot, perform}
 use Rattle.meaning.specs.Evaluate.{RunnerB, foundB, each-valueB, finishB, callB, operateB, stepB, evalB, evaluate}
 use Rattle.meaning.specs.Driver.{optimize-sexp}
-use Rattle.meaning.proofs.Walk.{Kept, walk-loop}
+use Rattle.meaning.proofs.Walk.{OfWork, Kept, walk-loop}
 
--- a refusal, if it is one, came after the room was touched
+-- a refusal, if it is one, is one of work
 unfoldable pub Touched : {S A : Type 0} → Out S A → Type 0
 Touched (done a s) = Unit {0}
-Touched (stop n s) = leaves-room n ≡ false
+Touched (stop n s) = OfWork n
 
--- work whose refusals all come so late
+-- work whose refusals are all such ones
 pub record Late {S A : Type 0} (m : M S A) : Type 0 where
   pub so : (s : S) → Touched (m s)
 
@@ -33,7 +32,7 @@ module _ {S : Type 0} where
   unfolding give Touched
   late-give a = record { so = λ s. tt }
 
-  late-refuse : {A : Type 0} (k : Refusal) → leaves-room k ≡ false → Late {S = S} {A = A} (refuse k)
+  late-refuse : {A : Type 0} (k : Refusal) → OfWork k → Late {S = S} {A = A} (refuse k)
   unfolding refuse Touched
   late-refuse k h = record { so = λ s. h }
 
@@ -53,13 +52,13 @@ module _ {S : Type 0} where
   late-if true h k = h
   late-if false h k = k
 
-  late-hold : (b : Bool) (k : Refusal) → leaves-room k ≡ false → Late {S = S} (hold b k)
+  late-hold : (b : Bool) (k : Refusal) → OfWork k → Late {S = S} (hold b k)
   unfolding hold
   late-hold true k h = late-give tt
   late-hold false k h = late-refuse k h
 
 -- a test that goes on or refuses
-touched-if : {S A : Type 0} (b : Bool) (a : A) (x y : S) (k : Refusal) → leaves-room k ≡ false → Touched {S = S} {A = A} (elim b [ true ↦ done a x | false ↦ stop k y ])
+touched-if : {S A : Type 0} (b : Bool) (a : A) (x y : S) (k : Refusal) → OfWork k → Touched {S = S} {A = A} (elim b [ true ↦ done a x | false ↦ stop k y ])
 unfolding Touched
 touched-if true a x y k h = tt
 touched-if false a x y k h = h

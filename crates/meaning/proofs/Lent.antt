@@ -2,7 +2,7 @@
 use Prim.Native.Nat.{ℕ, zero, suc, _+_, _-_, _<_, _≤_}
 use mathlib.Core.Path.{_≡_, refl, sym, _∙_, ap, subst}
 use mathlib.Core.List.{List, [], _∷_, _++_}
-use mathlib.Core.Bool.{Bool, true, false}
+use mathlib.Core.Bool.{Bool, true, false, not}
 use lib.Dec.{leb}
 use lib.ListN.{length, take, drop, getD, length-append, length-drop}
 use lib.Seq.{take-at, drop-at}
@@ -16,8 +16,9 @@ use Rattle.meaning.specs.Limits.{room-least}
 use Rattle.meaning.specs.Meter.{Out, done, stop}
 use Rattle.meaning.specs.Form.{write}
 use Rattle.meaning.specs.Outcome.{Tag, plain, Outcome, answered, refused, deliver, deliver-tree, ended, in-room, out-after, zeroed, room-after, Told, values, number, told, Delivers, Settles}
-use Rattle.meaning.proofs.Tests.{leb-yes, leb-true, leb-no}
+use Rattle.meaning.proofs.Tests.{not-false, and-inv, leb-yes, leb-true, leb-no}
 use Rattle.meaning.proofs.Yields.{either-way}
+use Rattle.meaning.proofs.Walk.{OfWork}
 use Rattle.meaning.proofs.Late.{Touched}
 
 -- ---- zeros
@@ -68,11 +69,41 @@ pub zeros-tree : (limit : ℕ) (t : Tree) (ns : List ℕ) → Zeros (deliver-tre
 unfolding deliver-tree
 zeros-tree limit t ns = zeros-deliver limit (write t) (length (write t) ∷ ns)
 
+-- what a refusal of work does not leave, and where its number stands
+of-work-touched : (n : Refusal) → OfWork n → leaves-room n ≡ false
+of-work-touched n h = let (t, k) = and-inv (not (leaves-room n)) (leb (number-of n) 14) h in go (leaves-room n) t
+  where
+    go : (b : Bool) → not b ≡ true → b ≡ false
+    go true e = not-false e
+    go false e = refl
+
+of-work-number : (n : Refusal) → OfWork n → number-of n ≤ 14
+of-work-number n h = let (t, k) = and-inv (not (leaves-room n)) (leb (number-of n) 14) h in leb-yes (number-of n) 14 k
+
 -- work that has touched the room, and whose result's outcome leaves it zero
 pub zeros-ended : {S A : Type 0} (then : A → S → Outcome) → ((a : A) (s : S) → Zeros (then a s)) → (o : Out S A) → Touched o → Zeros (ended then o)
 unfolding ended Touched
 zeros-ended then h (done a s) t = h a s
-zeros-ended then h (stop n s) t = zeros-refused n t
+zeros-ended then h (stop n s) t = zeros-refused n (of-work-touched n t)
+
+-- ---- 01's table
+
+-- a refusal, if it is one, has one of 01's numbers
+unfoldable pub InTable : Outcome → Type 0
+InTable (answered bytes tag ns) = Unit {0}
+InTable (refused n) = number-of n ≤ 14
+
+pub table-tree : (limit : ℕ) (t : Tree) (ns : List ℕ) → InTable (deliver-tree limit t ns)
+unfolding deliver-tree deliver InTable
+table-tree limit t ns = either-way InTable (leb (length (write t)) limit) (answered (write t) plain (length (write t) ∷ ns)) (refused OutputShort) tt (omega arith)
+
+pub table-ended : {S A : Type 0} (then : A → S → Outcome) → ((a : A) (s : S) → InTable (then a s)) → (room-length : ℕ) (o : Out S A) → Touched o → InTable (in-room room-length (ended then o))
+unfolding in-room ended Touched InTable
+table-ended {S} {A} then h room-length o t = either-way InTable (leb room-least room-length) (ended then o) (refused RoomSmall) (go o t) (omega arith)
+  where
+    go : (o : Out S A) → Touched o → InTable (ended then o)
+    go (done a s) t = h a s
+    go (stop n s) t = of-work-number n t
 
 -- ---- a law of every outcome
 

@@ -17,7 +17,7 @@ use Rattle.meaning.specs.Run.{mark-number, finished, after-reading, work
 use Rattle.meaning.proofs.Tests.{on-bool, leb-yes}
 use Rattle.meaning.proofs.MeterLaws.{not-stop}
 use Rattle.meaning.proofs.Late.{Touched, late-read, late-driver}
-use Rattle.meaning.proofs.Lent.{every, Fits, fits-tree, Zeros, zeros-tree, zeros-ended, Long, long-tree, long-told}
+use Rattle.meaning.proofs.Lent.{every, Fits, fits-tree, Zeros, zeros-tree, zeros-ended, InTable, table-tree, table-ended, Long, long-tree, long-told}
 
 -- ---- the work
 
@@ -96,14 +96,23 @@ pub run-fits : (form : List ℕ) (room-length out-length : ℕ) → Fits out-len
 unfolding run deliver-run Fits
 run-fits form room-length out-length = every (Fits out-length) (deliver-run out-length) (λ n. tt) (λ t s. fits-tree out-length t _) room-length (worked form)
 
-pub run-zeros : (form : List ℕ) (out-length : ℕ) → Zeros (ended (deliver-run out-length) (worked form))
-unfolding deliver-run worked Touched
-run-zeros form out-length = zeros-ended (deliver-run out-length) (λ t s. zeros-tree out-length t _) (worked form) (touched (read-form form 0) refl)
+run-touched : (form : List ℕ) → Touched (worked form)
+unfolding worked Touched
+run-touched form = touched (read-form form 0) refl
   where
     touched : (o : Out Reading Tree) → read-form form 0 ≡ o
         → Touched {S = Spent} {A = Tree} (elim o [ done t r ↦ optimize-sexp nesting-limit t (after-reading r) | stop n r ↦ stop n (after-reading r) ])
     touched (done t r) e = late-driver nesting-limit t .so (after-reading r)
     touched (stop n r) e = subst Touched e (late-read form 0)
+
+pub run-zeros : (form : List ℕ) (out-length : ℕ) → Zeros (ended (deliver-run out-length) (worked form))
+unfolding deliver-run
+run-zeros form out-length = zeros-ended (deliver-run out-length) (λ t s. zeros-tree out-length t _) (worked form) (run-touched form)
+
+-- a refusal has one of 01's numbers
+pub run-table : (form : List ℕ) (room-length out-length : ℕ) → InTable (run form room-length out-length)
+unfolding run deliver-run
+run-table form room-length out-length = table-ended (deliver-run out-length) (λ t s. table-tree out-length t _) room-length (worked form) (run-touched form)
 
 -- an answer's first number is how many bytes it writes
 pub run-length : (form : List ℕ) (room-length out-length : ℕ) (bytes : List ℕ) (n : ℕ) (ms : List ℕ) → run form room-length out-length ≡ answered bytes plain (n ∷ ms) → length bytes ≡ n

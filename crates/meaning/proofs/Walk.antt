@@ -8,7 +8,7 @@ use lib.Dec.{leb}
 use lib.ListN.{length}
 use Rattle.refusals.specs.declared.Refusal.{Refusal}
 use Rattle.refusals.specs.declared.Refusal.the-variants.{PathLong, PassesOut}
-use Rattle.refusals.specs.Numbers.{leaves-room}
+use Rattle.refusals.specs.Numbers.{number-of, leaves-room}
 use Rattle.meaning.specs.Tree.{Tree, atom, pair, nil, enlist, equal-to, proper-list, non-nil, is-quote, quote}
 use Rattle.meaning.specs.Number.{node-path-index, compose-paths, bytes-of}
 use Rattle.meaning.specs.Limits.{path-limit, pair-cost}
@@ -20,12 +20,16 @@ use Rattle.meaning.specs.Substitute.{sub-args, sub-cost, reads-low}
 use Rattle.meaning.specs.Rules.{constant-optimizer, Applied, applied, not-applied, applied-of, each, non-constant, none-of, settle, var-change-optimizer-cons-eval, same-trees, relist, children, children-optimizer, atom-name, atom-pattern, path-to, misread, longer, path-optimizer}
 use Rattle.meaning.specs.Driver.{optimizers, pass, loop}
 
+-- a refusal of 01's table that comes after the room was touched
+abbrev pub OfWork : Refusal → Type 0
+OfWork n = (not (leaves-room n) && leb (number-of n) 14) ≡ true
+
 -- a relation of work, and that each way of putting work together keeps it
 pub record Kept : Type 1 where
   pub rel : {A : Type 0} → W A → W A → Type 0
   pub by-give : {A : Type 0} (a : A) → rel (give a) (give a)
-  -- (none of the driver's refusals leaves the room as it came in)
-  pub by-refuse : {A : Type 0} (n : Refusal) → leaves-room n ≡ false → rel (refuse {A = A} n) (refuse n)
+  -- (all of the driver's refusals are such ones)
+  pub by-refuse : {A : Type 0} (n : Refusal) → OfWork n → rel (refuse {A = A} n) (refuse n)
   pub by-bind : {A B : Type 0} {m n : W A} {f g : A → W B} → rel m n → ((a : A) → rel (f a) (g a)) → rel (m >>= f) (n >>= g)
   pub by-charge : (c : ℕ) → rel (charge c) (charge c)
   pub by-pass : rel one-pass one-pass

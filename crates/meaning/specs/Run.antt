@@ -23,13 +23,16 @@ finished bytes passes units mark = answered bytes plain (length bytes ∷ passes
 abbrev pub after-reading : Reading → Spent
 after-reading r = record { units = r .units; passes = 0; mark = false }
 
--- `optimize_sexp` of the tree that the form reads as, or the reader's refusal
+-- `optimize_sexp` of the tree that was read, or the reader's refusal
+unfoldable pub worked-on : Out Reading Tree → Out Spent Tree
+unfolding optimize-sexp
+worked-on (done t r) = optimize-sexp nesting-limit t (after-reading r)
+worked-on (stop n r) = stop n (after-reading r)
+
+-- the work on a form
 unfoldable pub worked : List ℕ → Out Spent Tree
-unfolding read-form optimize-sexp
-worked form = elim (read-form form 0) [
-  | done t r ↦ optimize-sexp nesting-limit t (after-reading r)
-  | stop n r ↦ stop n (after-reading r)
-]
+unfolding read-form worked-on
+worked form = worked-on (read-form form 0)
 
 -- the finished tree, and what the run took
 unfoldable pub deliver-run : ℕ → Tree → Spent → Outcome

@@ -2,6 +2,7 @@
 // `no line` where it is not an even count of lower-case hex digits. No line at all is the empty form.
 use lines::Got;
 use lines::Lines;
+use lines::Spelling;
 ghost use Prim.Native.Nat.{_≤_};
 ghost use lib.ListN.{length, take};
 ghost use Rattle.meaning.specs.Run.{run};
@@ -20,7 +21,7 @@ fn answer(
     requires { ⌜ (length (now out) ≤ out-most) × (line-most ≤ length (now text)) ⌝ }
     ensures { λ r. ⌜ Only (line-of (run (take (r .n) (now (form .exit))) (length (now (room .entry))) (length (now (out .entry))))) (now (text .exit)) r ⌝ }
 {
-    let mut r = lines::next_line(buf, form, text, lines::start());
+    let mut r = lines::next_line(Spelling::Hex, buf, form, text, lines::start());
     let n = r.n;
     let g = r.got;
     match g {

@@ -38,7 +38,7 @@ module _ (form room out room′ out′ : List ℕ) where
   pub demand-1-refused : (n : Refusal) → Optimised form room out (Refused n) room′ out′ → (1 ≤ number-of n) × (number-of n ≤ 14) × (out′ ≡ out)
   unfolding out-after
   demand-1-refused n h =
-      let (least, most) = meant.demand-1-number n in
+      let (least, most) = meant.demand-1-number form (length room) (length out) n (refuses form room out room′ out′ n h) in
       (least, most, h .delivers .out ∙ ap (λ (o : Outcome). out-after o out) (refuses form room out room′ out′ n h))
 
   -- An answer fits into the output, and touches no byte past its length.

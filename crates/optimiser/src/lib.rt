@@ -30,7 +30,7 @@ pub enum Answer {
 }
 
 // The finished tree's node and what the run took, or a refusal.
-pub(crate) enum Finished {
+pub enum Finished {
     Node(usize, Work),
     Refused(Refusal),
 }
@@ -59,7 +59,7 @@ fn read_and_work(form: &[u8], room: &mut [u8], p: Patterns, ch: Charges) -> Fini
 }
 
 // All of a run's work, whatever the room held. The patterns are laid first, below the form's nodes and free of units.
-fn worked(form: &[u8], room: &mut [u8]) -> Finished
+pub fn worked(form: &[u8], room: &mut [u8]) -> Finished
     requires { ⌜ room-least ≤ length (now room) ⌝ }
     ensures { λ r. ⌜ WorkedOk (now (form .entry)) (now (room .exit)) r ⌝ }
 {

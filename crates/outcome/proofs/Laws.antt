@@ -4,7 +4,7 @@ use mathlib.Core.Bool.{Bool, true, false}
 use mathlib.Core.List.{List, [], _∷_}
 use Prim.Native.Nat.{ℕ, _≤_}
 use native.Mathlib.Omega.{arith}
-use lib.ListN.{length, take}
+use lib.ListN.{length, take, drop}
 use lib.Seq.{length-take-le}
 use mir.Val.{boolByte}
 use Rattle.refusals.specs.declared.Refusal.{Refusal}
@@ -33,23 +33,32 @@ answer-printed bs ns s t u at a k h g = joined (ok-tree bs) (numbers-line ns) s 
 
 -- ---- for every function that delivers a tree
 
--- an answer that tells n and then ns: n bytes stand at the front of the output, and the line is theirs
+-- an answer that tells n and then ns: n bytes stand at the front of the output, and they are the outcome's
 pub record Stands (o : Outcome) (w : List ℕ) (n : ℕ) (ns : List ℕ) : Type 0 where
   pub within : n ≤ length w
-  pub line : ok-line (take n w) ns ≡ line-of o
+  pub is : o ≡ answered (take n w) plain (n ∷ ns)
 
 pub count : (o : Outcome) (w : List ℕ) (n : ℕ) (ns : List ℕ) → Stands o w n ns → n ≡ length (take n w)
 count o w n ns h = sym (length-take-le n w (h .within))
 
+-- so its line is that of these bytes
+pub line-stands : (ok : List ℕ → List ℕ → List ℕ) (o : Outcome) (w : List ℕ) (n : ℕ) (ns : List ℕ) → Stands o w n ns → ok (take n w) (n ∷ ns) ≡ line-with ok o
+unfolding line-with
+line-stands ok o w n ns h = sym (ap (line-with ok) (h .is))
+
+tree-line : (o : Outcome) (w : List ℕ) (n : ℕ) (ns : List ℕ) → Stands o w n ns → ok-line (take n w) ns ≡ line-of o
+unfolding line-of
+tree-line o w n ns h = line-stands (λ bytes ms. ok-line bytes (drop 1 ms)) o w n ns h
+
 module _ {A : Type 0} (tells : A → Told) (o : Outcome) (s s′ w w′ : List ℕ) (a : A) (h : Settles tells o s s′ w w′ a) where
-  stands : (m n : ℕ) (ns : List ℕ) → Counted m o → tells a ≡ values plain (n ∷ ns) → Stands o w′ n ns
-  unfolding Counted line-of line-with
+  pub stands : (m n : ℕ) (ns : List ℕ) → Counted m o → tells a ≡ values plain (n ∷ ns) → Stands o w′ n ns
+  unfolding Counted
   stands m n ns c e =
       let b : Answers o plain (n ∷ ns) w w′ = told-answer o plain (n ∷ ns) w w′ (sym e ∙ h .delivers .answer) (h .delivers .out) in
       let d : Counted m (answered (b .bytes) plain (n ∷ ns)) = rw (b .is) at c in
       let i : n ≡ length (b .bytes) = cc (d .1 .0) in
       let l : length (b .bytes) ≤ length w′ = b .within in
-      record { within = omega arith; line = ap (λ (bs : List ℕ). ok-line bs ns) (ap (λ (k : ℕ). take k w′) i ∙ b .front) ∙ sym (ap line-of (b .is)) }
+      record { within = omega arith; is = b .is ∙ ap (λ (bs : List ℕ). answered bs plain (n ∷ ns)) (sym (ap (λ (k : ℕ). take k w′) i ∙ b .front)) }
 
   pub refusal-told : (e : Refusal) (n : ℕ) (t t′ : List ℕ) (at r : ℕ) → tells a ≡ number (number-of e) → n ≡ number-of e → Printed (no-number n) t t′ at r → (ok : List ℕ → List ℕ → List ℕ) → Printed (line-with ok o) t t′ at r
   unfolding line-with
@@ -77,7 +86,7 @@ module _ (f s w s′ w′ : List ℕ) (a : Answer) (h : Optimised f s w a s′ w
     optimised-count = count _ _ _ _ optimised
 
     pub optimised-line : (t t′ : List ℕ) (at k : ℕ) → Printed (ok-line (take (p .length) w′) (p .passes ∷ p .units ∷ boolByte (p .mark) ∷ [])) t t′ at k → Printed (line-of (run f (length s) (length w))) t t′ at k
-    optimised-line t t′ at k z = rw (optimised .line) at z
+    optimised-line t t′ at k z = rw (tree-line _ _ _ _ optimised) at z
 
   pub optimised-no : (e : Refusal) (n : ℕ) (t t′ : List ℕ) (at k : ℕ) → Printed (no-number n) t t′ at k → n ≡ number-of e → a ≡ Refused e → Printed (line-of (run f (length s) (length w))) t t′ at k
   unfolding says line-of
@@ -98,7 +107,7 @@ module _ (f : List ℕ) (first : ℕ) (s w s′ w′ : List ℕ) (a : EvalAnswer
     evaluated-count = count _ _ _ _ evaluated
 
     pub evaluated-line : (t t′ : List ℕ) (at k : ℕ) → Printed (ok-line (take n w′) (steps ∷ units ∷ [])) t t′ at k → Printed (line-of (evaluation.outcome f first (length s) (length w))) t t′ at k
-    evaluated-line t t′ at k z = rw (evaluated .line) at z
+    evaluated-line t t′ at k z = rw (tree-line _ _ _ _ evaluated) at z
 
   pub evaluated-no : (e : Refusal) (n : ℕ) (t t′ : List ℕ) (at k : ℕ) → Printed (no-number n) t t′ at k → n ≡ number-of e → a ≡ no-value e → Printed (line-of (evaluation.outcome f first (length s) (length w))) t t′ at k
   unfolding evaluation.says line-of
@@ -119,7 +128,7 @@ module _ (f s w s′ w′ : List ℕ) (a : WriteAnswer) (h : Settles form.write-
     written-count = count _ _ _ _ written
 
     pub written-line : (t t′ : List ℕ) (at k : ℕ) → Printed (ok-line (take n w′) (units ∷ [])) t t′ at k → Printed (line-of (form.write-outcome f (length s) (length w))) t t′ at k
-    written-line t t′ at k z = rw (written .line) at z
+    written-line t t′ at k z = rw (tree-line _ _ _ _ written) at z
 
   pub written-no : (e : Refusal) (n : ℕ) (t t′ : List ℕ) (at k : ℕ) → Printed (no-number n) t t′ at k → n ≡ number-of e → a ≡ not-written e → Printed (line-of (form.write-outcome f (length s) (length w))) t t′ at k
   unfolding form.write-says line-of

@@ -27,13 +27,17 @@ unfoldable pub Counted : ℕ → Outcome → Type 0
 Counted m (answered bytes tag ns) = (length bytes ≤ m) × ((ns ≡ length bytes ∷ drop 1 ns) × (length (drop 1 ns) ≤ 3))
 Counted m (refused n) = Unit {0}
 
-counted-refused : (m : ℕ) (n : Refusal) → Counted m (refused n)
+pub counted-refused : (m : ℕ) (n : Refusal) → Counted m (refused n)
 unfolding Counted
 counted-refused m n = tt
 
-counted-tree : (m : ℕ) (t : Tree) (ns : List ℕ) → length ns ≤ 3 → Counted m (deliver-tree m t ns)
-unfolding deliver-tree deliver Counted
-counted-tree m t ns h = on-bool (leb (length (write t)) m) (λ e. rw (e, deliver) (leb-true (length (write t)) m e, (refl, h))) (λ e. rw (e, deliver) tt)
+pub counted-deliver : (m : ℕ) (bytes ns : List ℕ) → length ns ≤ 3 → Counted m (deliver m bytes (length bytes ∷ ns))
+unfolding deliver Counted
+counted-deliver m bytes ns h = on-bool (leb (length bytes) m) (λ e. rw (e, deliver) (leb-true (length bytes) m e, (refl, h))) (λ e. rw (e, deliver) tt)
+
+pub counted-tree : (m : ℕ) (t : Tree) (ns : List ℕ) → length ns ≤ 3 → Counted m (deliver-tree m t ns)
+unfolding deliver-tree
+counted-tree m t ns h = counted-deliver m (write t) ns h
 
 pub run-counted : (f : List ℕ) (room m : ℕ) → Counted m (run f room m)
 unfolding run deliver-run

@@ -10,7 +10,7 @@ ghost use Rattle.lines.specs.Text.{Printed};
 ghost use Rattle.outcome.specs.Line.{ok-line, line-of};
 
 // Prints an answer after text[..at]: `ok`, the tree, and the numbers that are told behind its length.
-fn print_answer<'a>(tree: &'a [u8], numbers: &'a [usize], text: &mut [u8], at: usize) -> usize
+pub fn print_answer<'a>(tree: &'a [u8], numbers: &'a [usize], text: &mut [u8], at: usize) -> usize
     ensures { λ k. ⌜ Printed (ok-line (now (tree .entry)) (now (numbers .entry))) (now (text .entry)) (now (text .exit)) at k ⌝ }
 {
     let a = lines::print_ok(text, at, tree);

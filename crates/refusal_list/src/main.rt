@@ -1,4 +1,4 @@
-// Prints each refusal's number and, in document 01's words, when it is given.
+// Prints each refusal's number and, in the words of documents 01 and 02, when it is given.
 use refusals::Refusal;
 
 fn line(r: Refusal, words: &[u8]) {
@@ -37,7 +37,13 @@ fn working() {
     line(Refusal::OutputShort, b"result longer than the output");
 }
 
+fn of_text() {
+    line(Refusal::NoParse, b"text that does not parse");
+    line(Refusal::TextLong, b"text over 32,768 bytes");
+}
+
 fn main() {
     reading();
     working();
+    of_text();
 }

@@ -1,10 +1,10 @@
--- Document 01, "Numbers that bound a run": the number of each refusal, and what it leaves of the room.
+-- Document 01, "Numbers that bound a run", and the requests of 02: the number of each refusal, and what it leaves of the room.
 use Prim.Native.Nat.{ℕ}
 use mathlib.Core.Bool.{Bool, true, false}
 use Rattle.refusals.specs.declared.Refusal.{Refusal}
-use Rattle.refusals.specs.declared.Refusal.the-variants.{RoomSmall, FormLong, EndsEarly, BadPrefix, AtomLong, BytesAfter, UnitsOut, Fails, NoOperator, StepsOut, PathLong, PassesOut, TooDeep, OutputShort}
+use Rattle.refusals.specs.declared.Refusal.the-variants.{RoomSmall, FormLong, EndsEarly, BadPrefix, AtomLong, BytesAfter, UnitsOut, Fails, NoOperator, StepsOut, PathLong, PassesOut, TooDeep, OutputShort, NoParse, TextLong}
 
--- 01's table
+-- 01's table; 15 and 16 are of the notation (02, "Ask 1")
 abbrev pub number-of : Refusal → ℕ
 number-of RoomSmall = 1
 number-of FormLong = 2
@@ -20,6 +20,8 @@ number-of PathLong = 11
 number-of PassesOut = 12
 number-of TooDeep = 13
 number-of OutputShort = 14
+number-of NoParse = 15
+number-of TextLong = 16
 
 -- "Lent working room is all zero after any return but refusal 1, which leaves it unchanged": whether a refusal comes before the room is touched
 abbrev pub leaves-room : Refusal → Bool
@@ -37,3 +39,5 @@ leaves-room PathLong = false
 leaves-room PassesOut = false
 leaves-room TooDeep = false
 leaves-room OutputShort = false
+leaves-room NoParse = false
+leaves-room TextLong = false

@@ -1,4 +1,4 @@
-// The refusals of document 01, by name. Every layer answers with these; the numbers are given in one place.
+// The refusals of documents 01 and 02, by name. Every layer answers with these; the numbers are given in one place.
 ghost use mathlib.Core.Path.{_≡_};
 ghost use Rattle.refusals.specs.Numbers.{number-of};
 
@@ -17,9 +17,11 @@ pub enum Refusal {
     PassesOut,
     TooDeep,
     OutputShort,
+    NoParse,
+    TextLong,
 }
 
-// The number that document 01's table gives a refusal.
+// The number that document 01's table, or 02's request, gives a refusal.
 pub fn number_of(r: Refusal) -> u8
     ensures { λ n. ⌜ n ≡ number-of r ⌝ }
 {
@@ -38,5 +40,7 @@ pub fn number_of(r: Refusal) -> u8
         Refusal::PassesOut => 12,
         Refusal::TooDeep => 13,
         Refusal::OutputShort => 14,
+        Refusal::NoParse => 15,
+        Refusal::TextLong => 16,
     }
 }

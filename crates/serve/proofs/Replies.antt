@@ -17,8 +17,11 @@ use Rattle.match_line.specs.Line.{match-line}
 use Rattle.match_line.proofs.Names as matches
 use Rattle.rule_line.specs.Line.{rule-line}
 use Rattle.rule_line.proofs.Telling as rules
+use Rattle.texts.specs.Outcomes.{read-text-outcome, write-text-outcome, optimise-text-outcome, evaluate-text-outcome}
+use Rattle.text_line.specs.Line.{text-line, bare-line}
+use Rattle.text_line.proofs.Counts as texts
 use Rattle.serve.specs.declared.Program.{Program}
-use Rattle.serve.specs.declared.Program.the-variants.{Optimise, Evaluate, Match, Rule, Read}
+use Rattle.serve.specs.declared.Program.the-variants.{Optimise, Evaluate, Match, Rule, Read, ReadText, WriteText, OptimiseText, EvaluateText}
 use Rattle.serve.specs.Reply.{reply}
 
 pub reply-short : (p : Program) (f : List ℕ) (first room out : ℕ) → out ≤ out-most → length (reply p room out f first) ≤ line-most
@@ -28,6 +31,10 @@ reply-short Evaluate f first room out h = outcomes.line-short out (outcome f fir
 reply-short Match f first room out h = matches.line-short f first room out h
 reply-short Rule f first room out h = rules.line-short out h f first
 reply-short Read f first room out h = outcomes.line-short out (write-outcome f room out) h (outcomes.write-counted f room out)
+reply-short ReadText f first room out h = outcomes.line-short out (read-text-outcome f room out) h (texts.read-counted f room out)
+reply-short WriteText f first room out h = texts.bare-short out (write-text-outcome f room out) h (texts.written-counted f room out)
+reply-short OptimiseText f first room out h = texts.text-short out (optimise-text-outcome f room out) h (texts.optimised-counted f room out)
+reply-short EvaluateText f first room out h = texts.text-short out (evaluate-text-outcome f first room out) h (texts.evaluated-counted f first room out)
 
 module _ (p : Program) (f : List ℕ) (first room out : ℕ) (t t′ : List ℕ) (at r : ℕ) where
   pub optimised : Printed (line-of (run f room out)) t t′ at r → p ≡ Optimise → Printed (reply p room out f first) t t′ at r
@@ -49,6 +56,22 @@ module _ (p : Program) (f : List ℕ) (first room out : ℕ) (t t′ : List ℕ)
   pub written : Printed (line-of (write-outcome f room out)) t t′ at r → p ≡ Read → Printed (reply p room out f first) t t′ at r
   unfolding reply
   written h e = rw e h
+
+  pub text-read : Printed (line-of (read-text-outcome f room out)) t t′ at r → p ≡ ReadText → Printed (reply p room out f first) t t′ at r
+  unfolding reply
+  text-read h e = rw e h
+
+  pub text-written : Printed (bare-line (write-text-outcome f room out)) t t′ at r → p ≡ WriteText → Printed (reply p room out f first) t t′ at r
+  unfolding reply
+  text-written h e = rw e h
+
+  pub text-optimised : Printed (text-line (optimise-text-outcome f room out)) t t′ at r → p ≡ OptimiseText → Printed (reply p room out f first) t t′ at r
+  unfolding reply
+  text-optimised h e = rw e h
+
+  pub text-evaluated : Printed (text-line (evaluate-text-outcome f first room out)) t t′ at r → p ≡ EvaluateText → Printed (reply p room out f first) t t′ at r
+  unfolding reply
+  text-evaluated h e = rw e h
 
 -- a turn on a form: its reply is short enough to stand whole
 pub turned : (p : Program) (forms text text′ : List ℕ) (s q : Lines) (at k room out : ℕ) → Printed (reply p room out (take (q .n) forms) (q .first)) text text′ at k → Cleared text (q .put) at → Came forms s q → q .got ≡ Form → out ≤ out-most

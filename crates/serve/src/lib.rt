@@ -1,6 +1,7 @@
 // The programs that answer all of their input, line by line: one loop for all, and one choice of what answers.
 use lines::Got;
 use lines::Lines;
+use lines::Spelling;
 ghost use Prim.Native.Nat.{_≤_};
 ghost use lib.ListN.{length};
 ghost use Rattle.meaning.specs.Limits.{room-least};
@@ -19,19 +20,55 @@ pub enum Program {
     Rule,
     // A form: its tree written again.
     Read,
+    // A text: the form of its tree.
+    ReadText,
+    // A form: the text of its tree.
+    WriteText,
+    // A text: what the optimiser makes of it, as text.
+    OptimiseText,
+    // A program's text and its environment's: the value as text.
+    EvaluateText,
+}
+
+// How the program's lines spell bytes.
+fn spelling(which: Program) -> Spelling {
+    match which {
+        Program::Optimise => Spelling::Hex,
+        Program::Evaluate => Spelling::Hex,
+        Program::Match => Spelling::Hex,
+        Program::Rule => Spelling::Hex,
+        Program::Read => Spelling::Hex,
+        Program::ReadText => Spelling::Raw,
+        Program::WriteText => Spelling::Hex,
+        Program::OptimiseText => Spelling::Raw,
+        Program::EvaluateText => Spelling::Raw,
+    }
+}
+
+// Whether the program takes two lines for each answer.
+fn takes_two(which: Program) -> bool {
+    match which {
+        Program::Optimise => false,
+        Program::Evaluate => true,
+        Program::Match => true,
+        Program::Rule => true,
+        Program::Read => false,
+        Program::ReadText => false,
+        Program::WriteText => false,
+        Program::OptimiseText => false,
+        Program::EvaluateText => true,
+    }
 }
 
 // The next line, or the next two where the program takes two.
 fn next(which: Program, buf: &mut [u8], forms: &mut [u8], text: &[u8], s: Lines) -> Lines
     ensures { λ r. ⌜ Came (now (forms .exit)) s r ⌝ }
 {
-    match which {
-        Program::Optimise => lines::next_line(buf, forms, text, s),
-        Program::Evaluate => lines::next_two(buf, forms, text, s),
-        Program::Match => lines::next_two(buf, forms, text, s),
-        Program::Rule => lines::next_two(buf, forms, text, s),
-        Program::Read => lines::next_line(buf, forms, text, s),
+    let how = spelling(which);
+    if takes_two(which) {
+        return lines::next_two(how, buf, forms, text, s);
     }
+    lines::next_line(how, buf, forms, text, s)
 }
 
 // Prints the program's reply after text[..at]; forms[..first] are the first line's bytes.
@@ -53,6 +90,10 @@ fn answer(
         Program::Match => match_line::print_matched(forms, first, room, out, text, at),
         Program::Rule => rule_line::print_ruled(forms, first, room, out, text, at),
         Program::Read => outcome::print_written(forms, room, out, text, at),
+        Program::ReadText => text_line::print_read(forms, room, out, text, at),
+        Program::WriteText => text_line::print_written(forms, room, out, text, at),
+        Program::OptimiseText => text_line::print_optimised(forms, room, out, text, at),
+        Program::EvaluateText => text_line::print_evaluated(forms, first, room, out, text, at),
     }
 }
 
@@ -108,11 +149,11 @@ fn turns(
     }
 }
 
-// A form has at most 8,192 bytes, and of each line one byte more is kept: a longer one is refused. The text holds the longest line and
-// some that wait.
+// A form has at most 8,192 bytes and a text at most 32,768, and of each line one byte more is kept: a longer one is refused. What waits
+// has room for the longest line and some before it.
 pub fn run(which: Program) {
     let mut buf = [0u8; 4096];
-    let mut forms = [0u8; 16386];
+    let mut forms = [0u8; 65538];
     let mut room = [0u8; 65536];
     let mut out = [0u8; 32768];
     let mut text = [0u8; 69632];

@@ -12,3 +12,7 @@ pub use optimiser::Answer;
 pub use optimiser::Report;
 pub use optimiser::optimise;
 pub use refusals::Refusal;
+pub use texts::evaluate_text;
+pub use texts::optimise_text;
+pub use texts::read_text;
+pub use texts::write_text;

@@ -5,6 +5,7 @@ mod bytes;
 mod code;
 mod constants;
 mod damaged;
+mod decimal;
 mod deep;
 mod kept;
 mod large;
@@ -19,7 +20,13 @@ mod shared;
 pub mod sink;
 mod small;
 mod sound;
+mod spelling;
+mod texts_border;
+mod texts_damaged;
+mod texts_growing;
+mod texts_pairs;
 mod tree;
+mod trees;
 mod wide;
 
 use options::Options;
@@ -49,6 +56,11 @@ pub fn print(options: &Options, sink: &mut Sink) -> bool {
         "rule-8" => rules::print(8, options, sink),
         "pairs-match" => pairs_match::print(options, sink),
         "pairs-eval" => pairs_eval::print(options, sink),
+        "trees" => trees::print(options, sink),
+        "texts-border" => texts_border::print(sink),
+        "texts-damaged" => texts_damaged::print(options, sink),
+        "texts-growing" => texts_growing::print(options, sink),
+        "texts-pairs" => texts_pairs::print(options, sink),
         _ => return false,
     }
     true

@@ -1,4 +1,4 @@
-//! Prints forms of one family, a line of lower-case hex each, on request with a name in front.
+//! Prints forms of one family, a line of lower-case hex or a text each, on request with a name in front.
 
 use std::io::{self, BufWriter, Write};
 
@@ -11,13 +11,17 @@ fn main() {
         std::process::exit(2);
     });
     let mut out = BufWriter::new(io::stdout().lock());
-    let known = generate::print(
-        &options,
-        &mut Sink::new(|name, forms| {
-            let text = forms.iter().map(|form| hex(form)).collect::<Vec<_>>().join(" ");
-            stop_on(if options.names { writeln!(out, "{name} {text}") } else { writeln!(out, "{text}") });
-        }),
-    );
+    let mut put = |name: &str, line: &[u8]| {
+        let name = if options.names { format!("{name} ") } else { String::new() };
+        stop_on(out.write_all(&[name.as_bytes(), line, b"\n"].concat()));
+    };
+    let mut sink = if options.text {
+        Sink::of_texts(options.seed, |name, texts| put(name, &texts.join(&b'\n')))
+    } else {
+        Sink::new(|name, forms| put(name, forms.iter().map(|form| hex(form)).collect::<Vec<_>>().join(" ").as_bytes()))
+    };
+    let known = generate::print(&options, &mut sink);
+    drop(sink);
     if !known {
         eprintln!("generate: no family is called {}\n{USAGE}", options.family);
         std::process::exit(2);

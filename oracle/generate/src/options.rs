@@ -1,13 +1,15 @@
 //! The command line.
 
 pub const USAGE: &str = "\
-usage: generate FAMILY [--seed N] [--count N] [--max N] [--leaves N] [--atoms HEX,HEX,..] [--names]
+usage: generate FAMILY [--seed N] [--count N] [--max N] [--leaves N] [--atoms HEX,HEX,..] [--names] [--text]
 families: bytes (--max: bytes in a form, to 3)
           small (--leaves: 1 to 4; --atoms: which, nil being an empty word)
-          code, kept, damaged, large, rule-1 to rule-8, pairs-match, pairs-eval (--seed, --count)
+          code, kept, damaged, large, rule-1 to rule-8, pairs-match, pairs-eval, trees (--seed, --count)
           shared (--seed, --count: random ones after the fixed ones)
           limits, repeats, wide, deep
---names puts a name before each form";
+          texts-damaged, texts-growing, texts-pairs (--seed, --count), texts-border: texts in the readable notation
+--names puts a name before each form
+--text prints the texts of the trees, in spellings by chance; of two, each on a line of its own";
 
 pub struct Options {
     pub family: String,
@@ -17,6 +19,8 @@ pub struct Options {
     pub leaves: usize,
     pub atoms: Option<Vec<Vec<u8>>>,
     pub names: bool,
+    /// Texts in the readable notation, and not hex.
+    pub text: bool,
 }
 
 impl Options {
@@ -26,10 +30,15 @@ impl Options {
 
     pub fn from(mut words: impl Iterator<Item = String>) -> Result<Self, String> {
         let family = words.next().ok_or("which family?")?;
-        let mut options = Options { family, seed: 1, count: 1000, max: 3, leaves: 3, atoms: None, names: false };
+        let text = family.starts_with("texts-");
+        let mut options = Options { family, seed: 1, count: 1000, max: 3, leaves: 3, atoms: None, names: false, text };
         while let Some(word) = words.next() {
             if word == "--names" {
                 options.names = true;
+                continue;
+            }
+            if word == "--text" {
+                options.text = true;
                 continue;
             }
             let value = words.next().ok_or(format!("{word} wants a value"))?;

@@ -33,14 +33,14 @@ fn limits(sink: &mut Sink) {
 }
 
 /// Mostly pairs, so that short paths find something.
-fn environment(random: &mut Random, depth: usize) -> Tree {
+pub fn environment(random: &mut Random, depth: usize) -> Tree {
     if depth == 0 || random.once_in(30) {
         return if random.once_in(3) { telling(random) } else { program(random, 1) };
     }
     pair(environment(random, depth - 1), environment(random, depth - 1))
 }
 
-fn program(random: &mut Random, depth: usize) -> Tree {
+pub fn program(random: &mut Random, depth: usize) -> Tree {
     if depth == 0 {
         return leaf(random);
     }

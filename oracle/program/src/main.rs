@@ -7,7 +7,8 @@ use std::thread;
 use oracle::modes::{answer, Mode};
 use oracle::{store, STACK};
 
-const USAGE: &str = "Give one mode: tree, full, full --trace, full --rules, full --causes, match, eval, rule 1 to rule 8, or read.";
+const USAGE: &str = "Give one mode: tree, full, full --trace, full --rules, full --causes, match, eval, rule 1 to rule 8, read, \
+read-text, write-text, optimise-text, or evaluate-text.";
 
 fn mode(words: &[String]) -> Option<Mode> {
     let words: Vec<&str> = words.iter().map(|w| w.as_str()).collect();
@@ -20,6 +21,10 @@ fn mode(words: &[String]) -> Option<Mode> {
         ["match"] => Mode::Match,
         ["eval"] => Mode::Eval,
         ["read"] => Mode::Read,
+        ["read-text"] => Mode::ReadText,
+        ["write-text"] => Mode::WriteText,
+        ["optimise-text"] => Mode::OptimiseText,
+        ["evaluate-text"] => Mode::EvaluateText,
         ["rule", number @ ("1" | "2" | "3" | "4" | "5" | "6" | "7" | "8")] => {
             Mode::Rule(number.parse().unwrap())
         }
@@ -71,6 +76,10 @@ fn run(mode: Mode) -> io::Result<ExitCode> {
         if input.read_until(b'\n', &mut line)? == 0 {
             break;
         }
+        // A program and its environment: the second line stands behind the first one's end.
+        if mode == Mode::EvaluateText && line.last() == Some(&b'\n') {
+            input.read_until(b'\n', &mut line)?;
+        }
         if line.last() == Some(&b'\n') {
             line.pop();
         }
@@ -86,7 +95,7 @@ fn run(mode: Mode) -> io::Result<ExitCode> {
         return Ok(ExitCode::from(2));
     }
     if no_line > 0 {
-        eprintln!("Of the lines, {no_line} did not hold hex as this mode wants it; they are answered `no line`.");
+        eprintln!("Of the lines, {no_line} did not hold hex as this mode wants it, or lacked a second one; they are answered `no line`.");
         return Ok(ExitCode::from(1));
     }
     Ok(ExitCode::SUCCESS)

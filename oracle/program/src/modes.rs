@@ -10,6 +10,7 @@ use clvm_rs::run::{write, GaveUp};
 
 use crate::form::{from_hex, put_hex, read};
 use crate::matcher::{matches, published_agrees, Matched};
+use crate::readable::{read_text, write_text};
 use crate::runner::{evaluate, Runner};
 
 /// What a result may be written into.
@@ -28,11 +29,15 @@ pub enum Mode {
     Eval,
     Rule(usize),
     Read,
+    ReadText,
+    WriteText,
+    OptimiseText,
+    EvaluateText,
 }
 
 pub struct Said {
     pub line: String,
-    /// The line was not of hex digits.
+    /// The line was not of hex digits, or a second line was missing.
     pub no_line: bool,
     /// The text complained of itself, or the two matchers disagree: the oracle is not to be trusted.
     pub broken: bool,
@@ -99,13 +104,19 @@ pub fn answer(mode: Mode, store: &mut Allocator, line: &[u8]) -> Said {
     said
 }
 
-/// One form, or two with one blank between them.
+/// One form, or two with one blank between them; one text, or two with a line's end between them.
 fn forms(mode: Mode, line: &[u8]) -> Option<Vec<Vec<u8>>> {
-    if matches!(mode, Mode::Match | Mode::Eval) {
-        let blank = line.iter().position(|c| *c == b' ')?;
-        Some(vec![from_hex(&line[..blank])?, from_hex(&line[blank + 1..])?])
-    } else {
-        Some(vec![from_hex(line)?])
+    match mode {
+        Mode::Match | Mode::Eval => {
+            let blank = line.iter().position(|c| *c == b' ')?;
+            Some(vec![from_hex(&line[..blank])?, from_hex(&line[blank + 1..])?])
+        }
+        Mode::ReadText | Mode::OptimiseText => Some(vec![line.to_vec()]),
+        Mode::EvaluateText => {
+            let end = line.iter().position(|c| *c == b'\n')?;
+            Some(vec![line[..end].to_vec(), line[end + 1..].to_vec()])
+        }
+        _ => Some(vec![from_hex(line)?]),
     }
 }
 
@@ -115,7 +126,10 @@ fn work(
     forms: &[Vec<u8>],
     out: &mut String,
 ) -> Result<(), EvalErr> {
-    let first = read(store, &forms[0])?;
+    let first = match mode {
+        Mode::ReadText | Mode::OptimiseText | Mode::EvaluateText => read_text(store, &forms[0])?,
+        _ => read(store, &forms[0])?,
+    };
     match mode {
         Mode::Tree => {
             let Some(bytes) = write_published(store, first)? else {
@@ -181,10 +195,28 @@ fn work(
             }
             write!(out, " {} {}", store.run.units, store.run.mark() as u8).unwrap();
         }
-        Mode::Read => {
+        Mode::Read | Mode::ReadText => {
             out.push_str("ok ");
             put_tree(store, first, out)?;
             write!(out, " {}", store.run.units).unwrap();
+        }
+        Mode::WriteText => {
+            out.push_str("ok ");
+            put_text(store, first, out)?;
+        }
+        Mode::OptimiseText => {
+            let tree = rewritten(store, first)?;
+            out.push_str("ok ");
+            put_text(store, tree, out)?;
+            let run = &store.run;
+            write!(out, " {} {} {}", run.passes, run.units, run.mark() as u8).unwrap();
+        }
+        Mode::EvaluateText => {
+            let env = read_text(store, &forms[1])?;
+            let (value, steps) = evaluate(store, first, env)?;
+            out.push_str("ok ");
+            put_text(store, value, out)?;
+            write!(out, " {steps} {}", store.run.units).unwrap();
         }
     }
     Ok(())
@@ -198,13 +230,18 @@ pub struct Answer {
     pub mark: bool,
 }
 
-/// The text with its charges and limits, on a tree that was read; refusal 14 beyond `most` bytes.
-fn optimised(store: &mut Allocator, tree: NodePtr, most: usize) -> Result<Answer, EvalErr> {
-    let tree = text_patched::classic::clvm_tools::stages::stage_2::optimize::optimize_sexp(
+/// The text with its charges and limits, on a tree that was read.
+fn rewritten(store: &mut Allocator, tree: NodePtr) -> Result<NodePtr, EvalErr> {
+    text_patched::classic::clvm_tools::stages::stage_2::optimize::optimize_sexp(
         store,
         tree,
         Rc::new(Runner),
-    )?;
+    )
+}
+
+/// The same, and the tree written; refusal 14 beyond `most` bytes.
+fn optimised(store: &mut Allocator, tree: NodePtr, most: usize) -> Result<Answer, EvalErr> {
+    let tree = rewritten(store, tree)?;
     let tree = write(store, tree, most).ok_or(EvalErr::Refused(14))?;
     let run = &store.run;
     Ok(Answer { tree, passes: run.passes, units: run.units, mark: run.mark() })
@@ -238,5 +275,11 @@ pub fn published(store: &mut Allocator, form: &[u8]) -> Result<Option<Vec<u8>>, 
 fn put_tree(store: &Allocator, tree: NodePtr, out: &mut String) -> Result<(), EvalErr> {
     let bytes = write(store, tree, OUTPUT).ok_or(EvalErr::Refused(14))?;
     put_hex(&bytes, out);
+    Ok(())
+}
+
+/// The tree in the readable notation, or refusal 14.
+fn put_text(store: &Allocator, tree: NodePtr, out: &mut String) -> Result<(), EvalErr> {
+    out.push_str(&write_text(store, tree, OUTPUT).ok_or(EvalErr::Refused(14))?);
     Ok(())
 }

@@ -18,6 +18,14 @@ answer-spec =
     (λ c κs. search needs)  -- print-ruled-requires
     (λ c. search needs)  -- enum-told-5
     (λ c κs. search needs)  -- print-written-requires
+    (λ c. search needs)  -- enum-told-6
+    (λ c κs. search needs)  -- print-read-requires
+    (λ c. search needs)  -- enum-told-7
+    (λ c κs. search needs)  -- print-written-requires-2
+    (λ c. search needs)  -- enum-told-8
+    (λ c κs. search needs)  -- print-optimised-requires-2
+    (λ c. search needs)  -- enum-told-9
+    (λ c κs. search needs)  -- print-evaluated-requires-2
     (λ c. search needs)  -- same-length
     (λ c. search needs)  -- same-length-2
     (λ c. search needs)  -- same-length-3
@@ -37,4 +45,20 @@ answer-spec =
     (λ c. search needs)  -- same-length-13
     (λ c. search needs)  -- same-length-14
     (λ c. search needs)  -- same-length-15
-    (λ c. search replies.written))  -- returns-5
+    (λ c. search replies.written)  -- returns-5
+    (λ c. search needs)  -- same-length-16
+    (λ c. search needs)  -- same-length-17
+    (λ c. search needs)  -- same-length-18
+    (λ c. search replies.text-read)  -- returns-6
+    (λ c. search needs)  -- same-length-19
+    (λ c. search needs)  -- same-length-20
+    (λ c. search needs)  -- same-length-21
+    (λ c. search replies.text-written)  -- returns-7
+    (λ c. search needs)  -- same-length-22
+    (λ c. search needs)  -- same-length-23
+    (λ c. search needs)  -- same-length-24
+    (λ c. search replies.text-optimised)  -- returns-8
+    (λ c. search needs)  -- same-length-25
+    (λ c. search needs)  -- same-length-26
+    (λ c. search needs)  -- same-length-27
+    (λ c. search replies.text-evaluated))  -- returns-9

@@ -2,7 +2,7 @@
 //! not; the counts come from the formulas beside each builder.
 
 mod nesting;
-mod output;
+pub mod output;
 pub mod passes;
 mod paths;
 mod reading;

@@ -97,7 +97,8 @@ pub fn give_up() -> ! {
     std::panic::resume_unwind(Box::new(GaveUp))
 }
 
-fn put_atom(bytes: &[u8], out: &mut Vec<u8>) {
+/// An atom's serialised form.
+pub fn put_atom(bytes: &[u8], out: &mut Vec<u8>) {
     let n = bytes.len();
     match n {
         0 => out.push(0x80),

@@ -10,11 +10,11 @@ use Rattle.lines.proofs.read.next_line.Statement.{statement}
 use Rattle.lines.proofs.read.next_line.Tie as tie
 
 abbrev Inv-loop : tie.InvT-loop
-Inv-loop buf₀ form₀ text line₀ at₀ len₀ put₀ begun₀ turns₀ buf form line at len put begun turns =
+Inv-loop how buf₀ form₀ text line₀ at₀ len₀ put₀ begun₀ turns₀ buf form line at len put begun turns =
     Counts len buf × ((length buf ≡ length buf₀) × ((line .n ≤ length form) × ((length form ≡ length form₀) × Waits put₀ put)))
 
 abbrev μ-loop : tie.MeasureT-loop
-μ-loop buf₀ form₀ text line₀ at₀ len₀ put₀ begun₀ turns₀ buf form line at len put begun turns = turns
+μ-loop how buf₀ form₀ text line₀ at₀ len₀ put₀ begun₀ turns₀ buf form line at len put begun turns = turns
 
 pub next-line-spec : {M : Type 1} → statement M
 next-line-spec =

@@ -1,4 +1,4 @@
--- with_byte: an answer for each need; what carries weight stands in the laws.
+-- with_byte: by how the line spells.
 use borrow.Author.Needs.{needs}
 use Rattle.lines.proofs.Reading as reading
 use Rattle.lines.proofs.read.with_byte.Statement.{statement}
@@ -8,13 +8,11 @@ pub with-byte-spec : {M : Type 1} → statement M
 with-byte-spec =
     tie.close
     (tie.spec
-    (λ c κs. search needs)  -- digit-requires
-    (λ c. search reading.no-digit)  -- returns
-    (λ c. search reading.first-digit)  -- returns-2
-    (λ c. search reading.dropped)  -- returns-3
-    (λ c. search needs)  -- mul-form
-    (λ c. search needs)  -- add-form
-    (λ c. search needs)  -- slice-write-form
-    (λ c. search needs)  -- add-t8
+    (λ c. search needs)  -- enum-told
+    (λ c κs. search needs)  -- with-digit-requires
+    (λ c. search needs)  -- enum-told-2
+    (λ c κs. search needs)  -- with-raw-requires
     (λ c. search needs)  -- same-length
-    (λ c. search reading.kept))  -- returns-4
+    (λ c. search reading.took-hex)  -- returns
+    (λ c. search needs)  -- same-length-2
+    (λ c. search reading.took-raw))  -- returns-2

@@ -7,10 +7,10 @@ use Rattle.lines.proofs.read.with_bytes.Statement.{statement}
 use Rattle.lines.proofs.read.with_bytes.Tie as tie
 
 abbrev Inv-loop : tie.InvT-loop
-Inv-loop bytes from form₀ line₀ at₀ form line at = reading.Walking bytes from form₀ form line₀ line at
+Inv-loop how bytes from form₀ line₀ at₀ form line at = reading.Walking how bytes from form₀ form line₀ line at
 
 abbrev μ-loop : tie.MeasureT-loop
-μ-loop bytes from form₀ line₀ at₀ form line at = length bytes - at
+μ-loop how bytes from form₀ line₀ at₀ form line at = length bytes - at
 
 pub with-bytes-spec : {M : Type 1} → statement M
 with-bytes-spec =

@@ -1,0 +1,4 @@
+pub mod DigitLaws
+pub mod RoomLaws
+pub mod SignLaws
+pub mod WordLaws

@@ -1,0 +1,11 @@
+pub mod KindLaws
+pub mod ScanLaws
+pub mod EmitLaws
+pub mod NameLaws
+pub mod HexLaws
+pub mod DigitsLaws
+pub mod WordLaws
+pub mod Grows
+pub mod MachineLaws
+pub mod TurnLaws
+pub mod ConvertLaws

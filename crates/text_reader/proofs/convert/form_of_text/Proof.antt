@@ -1,0 +1,16 @@
+-- form_of_text: the limit, then the whole. Assumes nothing.
+use Rattle.text_reader.proofs.ConvertLaws as laws
+use borrow.Author.Needs.{needs}
+use Rattle.text_reader.proofs.convert.form_of_text.Statement.{statement}
+use Rattle.text_reader.proofs.convert.form_of_text.Tie as tie
+
+pub form-of-text-spec : {M : Type 1} → statement M
+form-of-text-spec =
+    tie.close
+    (tie.spec
+    (λ c. search laws.too-long)  -- returns
+    (λ c. search needs)  -- slice-aggregate-convert
+    (λ c κs. search needs)  -- convert-requires
+    (λ c. search needs)  -- same-length
+    (λ c. search needs)  -- same-length-2
+    (λ c. search needs))  -- returns-2

@@ -1,0 +1,81 @@
+// The whole of a text.
+use crate::emit::Grown;
+use crate::machine::Reading;
+use crate::machine::Turn;
+use crate::machine::Want;
+use crate::machine::take_token;
+use refusals::Refusal;
+ghost use mathlib.Core.Path.{_≡_};
+ghost use Prim.Native.Nat.{_≤_};
+ghost use lib.ListN.{length};
+ghost use Rattle.meaning.specs.Limits.{room-least, form-limit};
+ghost use Rattle.notation.specs.Texts.{text-limit};
+ghost use Rattle.text_reader.specs.Converts.{begun, finished, ConvertedOk};
+
+// How many bytes the form has, or a refusal.
+pub enum Converted {
+    Form(usize),
+    Refused(Refusal),
+}
+
+const TEXT: usize = 32768;
+
+fn start() -> Reading
+    ensures { λ r. ⌜ r ≡ begun ⌝ }
+{
+    Reading {
+        at: 0,
+        want: Want::Whole,
+        depth: 0,
+        grown: Grown {
+            len: 0,
+            over: false,
+        },
+    }
+}
+
+// Refusal 2 comes after 15.
+fn finish(g: Grown) -> Converted
+    ensures { λ r. ⌜ r ≡ finished (g .over) (g .len) ⌝ }
+{
+    if g.over {
+        Converted::Refused(Refusal::FormLong)
+    } else {
+        Converted::Form(g.len)
+    }
+}
+
+// Token by token.
+fn convert(text: &[u8], frames: &mut [u8], room: &mut [u8], form: &mut [u8]) -> Converted
+    requires { ⌜ (length (now text) ≤ text-limit) × (text-limit ≤ length (now frames)) × (room-least ≤ length (now room)) × (form-limit ≤ length (now form)) ⌝ }
+    ensures { λ r. ⌜ ConvertedOk (now (text .entry)) (now (form .exit)) r ⌝ }
+{
+    let mut r = start();
+    while r.at <= text.len() {
+        match take_token(text, frames, room, form, r) {
+            Turn::Goes(q) => {
+                r = q;
+            }
+            Turn::Done(g) => {
+                return finish(g);
+            }
+            Turn::Fails => {
+                return Converted::Refused(Refusal::NoParse);
+            }
+        }
+    }
+    Converted::Refused(Refusal::NoParse)
+}
+
+// The serialised form of the text's tree, at the front of form, which has 8,192 bytes at least. Words are spelled out in the room, which
+// has 65,536 bytes at least.
+pub fn form_of_text(text: &[u8], room: &mut [u8], form: &mut [u8]) -> Converted
+    requires { ⌜ (room-least ≤ length (now room)) × (form-limit ≤ length (now form)) ⌝ }
+    ensures { λ r. ⌜ ConvertedOk (now (text .entry)) (now (form .exit)) r ⌝ }
+{
+    if TEXT < text.len() {
+        return Converted::Refused(Refusal::TextLong);
+    }
+    let mut frames = [0u8; 32768];
+    convert(text, &mut frames, room, form)
+}

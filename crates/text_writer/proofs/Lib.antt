@@ -1,0 +1,5 @@
+pub mod Heads
+pub mod Names
+pub mod Digits
+pub mod Endings
+pub mod Pairs
