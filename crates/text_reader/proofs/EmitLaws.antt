@@ -116,12 +116,6 @@ module _ {b f₀ f : List ℕ} {at i : ℕ} (s : Filling b f₀ f at i) where
   pub fill-fits : i < length b → at + i < length f
   fill-fits h = omega (arith, s .room, s .enough, s .long)
 
-  pub fill-small : i < length b → at + i < 8192
-  fill-small h = omega (arith, s .room)
-
-  pub fill-end : at + length b ≤ 8192
-  fill-end = s .room
-
   pub fill-same : length f ≡ length f₀
   fill-same = s .long
 

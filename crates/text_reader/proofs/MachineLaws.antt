@@ -35,12 +35,9 @@ use Rattle.text_reader.specs.declared.machine.Wanted.the-variants.{Atom,
 use Rattle.text_reader.specs.Forms.{Emitted, Emits, pair-byte}
 use Rattle.text_reader.specs.Machine.{Next, on, no, want-of, back, on-opening, pop, on-closing, on-atom, on-word, place-of}
 use Rattle.text_reader.specs.Turns.{opening-of, place-after, wanted-after, stack-in, leads, Moved, StepOk, LeadsOn, leads-on, Passed, NotPassed, PassOk, AtomOk, LongOk, WordOk, Popped, NotPopped, PopOk, dotted, end-turn, turn-of}
-use Rattle.text_reader.proofs.EmitLaws.{part-over}
+use Rattle.text_reader.proofs.EmitLaws.{emits-none, part-over}
 
 -- ---- leaves
-
-emits-nothing : (f : List ℕ) (g : Grown) → g .len ≤ form-limit → Emits [] f f g g
-emits-nothing f g h = record { long = refl; within = h; so = λ e m. subst (λ (l : List ℕ). Emitted l f g) (sym (append-nil e)) m }
 
 pub one-byte : (b : List ℕ) → length b ≡ 1 → eqb (getD b 0 0) 1 ≡ is-byte 1 b
 unfolding is-byte
@@ -206,7 +203,7 @@ close-more fr f f′ r next g s p h e i = popped fr f f′ r next g (0x80 ∷ []
 pub close-bracket : (fr f : List ℕ) (r : Reading) (next : ℕ) (s : Step) → PopOk fr (r .depth) (r .grown) next s → r .want ≡ Bracket → r .grown .len ≤ form-limit → StepOk on-closing fr fr f f r next s
 unfolding on-closing
 close-bracket fr f r next s h i k =
-    popped fr f f r next (r .grown) [] s (emits-nothing f (r .grown) k) (λ l. ap (λ (w : Want). on-closing w (stack-in fr (r .depth)) l) i ∙ ap (λ (m : List ℕ). pop (stack-in fr (r .depth)) m) (sym (append-nil l))) h
+    popped fr f f r next (r .grown) [] s (emits-none k) (λ l. ap (λ (w : Want). on-closing w (stack-in fr (r .depth)) l) i ∙ ap (λ (m : List ℕ). pop (stack-in fr (r .depth)) m) (sym (append-nil l))) h
 
 pub close-whole : (fr f : List ℕ) (r : Reading) (next : ℕ) → r .want ≡ Whole → StepOk on-closing fr fr f f r next NoParse
 unfolding on-closing StepOk

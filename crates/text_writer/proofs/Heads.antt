@@ -19,15 +19,6 @@ use Rattle.text_writer.specs.Parts.{part-place, first-byte}
 
 -- ---- the head of a list
 
-pub head-operator : (p : Place) → p ≡ Operator → Operator ≡ head-in p
-head-operator p e = rw e
-
-pub head-code : (p : Place) → p ≡ Code → Operator ≡ head-in p
-head-code p e = rw e
-
-pub head-data : (p : Place) → p ≡ Data → Data ≡ head-in p
-head-data p e = rw e
-
 pub place-rest : (rest : Bool) (p : Place) → rest ≡ true → p ≡ part-place rest p
 unfolding part-place
 place-rest rest p e = rw e
