@@ -5,7 +5,7 @@ use Prim.Native.Nat.{ℕ}
 use Rattle.meaning.specs.Outcome.{Outcome}
 use Rattle.library.specs.Reports.{Reports}
 
--- for any outcome, so for those of all nine functions
+-- for any outcome, so for those of all ten functions
 pub only-one : (o : Outcome) (s w q s₁ w₁ q₁ s₂ w₂ q₂ : List ℕ) (m n : ℕ) → Reports o s s₁ w w₁ q q₁ m → Reports o s s₂ w w₂ q q₂ n
     → (m ≡ n) × (s₁ ≡ s₂) × (w₁ ≡ w₂) × (q₁ ≡ q₂)
 only-one o s w q s₁ w₁ q₁ s₂ w₂ q₂ m n a b = (a .returns ∙ sym (b .returns), a .room ∙ sym (b .room), a .out ∙ sym (b .out), a .reports ∙ sym (b .reports))

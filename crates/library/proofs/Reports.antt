@@ -24,6 +24,9 @@ use Rattle.optimiser.specs.declared.Report.{Report}
 use Rattle.optimiser.specs.declared.Answer.{Answer}
 use Rattle.optimiser.specs.declared.Answer.the-variants.{Answered, Refused}
 use Rattle.optimiser.specs.Optimised as optimiser
+use Rattle.texts.specs.declared.FaultAnswer.{FaultAnswer}
+use Rattle.texts.specs.declared.FaultAnswer.the-variants.{At, NoFault, Refused as no-fault-told}
+use Rattle.texts.specs.Faults.{fault-says}
 use Rattle.library.specs.Reports.{number-told, report-told, Reports}
 
 -- whatever an answer tells, the number and the report follow from it
@@ -104,3 +107,18 @@ module _ (o : Outcome) (s s₁ w w₁ q : List ℕ) (a : WriteAnswer) (h : Settl
   pub write-done : (count units : ℕ) → a ≡ Written count units → Reports o s s₁ w w₁ q (count ∷ units ∷ []) 0
   unfolding write-says number-told report-told
   write-done count units i = reported write-says o s s₁ w w₁ q a (Written count units) h i _ 0 refl refl
+
+-- ---- where a text stops
+
+module _ (o : Outcome) (s s₁ w w₁ q : List ℕ) (a : FaultAnswer) (h : Settles fault-says o s s₁ w w₁ a) where
+  pub fault-refused : (e : Refusal) (n : ℕ) → a ≡ no-fault-told e → n ≡ number-of e → Reports o s s₁ w w₁ q q n
+  unfolding fault-says number-told report-told
+  fault-refused e n i j = reported fault-says o s s₁ w w₁ q a (no-fault-told e) h i q n j refl
+
+  pub fault-at : (p : ℕ) → a ≡ At p → Reports o s s₁ w w₁ q (1 ∷ p ∷ []) 0
+  unfolding fault-says number-told report-told
+  fault-at p i = reported fault-says o s s₁ w w₁ q a (At p) h i _ 0 refl refl
+
+  pub fault-none : a ≡ NoFault → Reports o s s₁ w w₁ q (0 ∷ 0 ∷ []) 0
+  unfolding fault-says number-told report-told
+  fault-none i = reported fault-says o s s₁ w w₁ q a NoFault h i _ 0 refl refl

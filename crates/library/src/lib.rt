@@ -2,6 +2,7 @@
 // the number of a refusal; a report is written through an array of its own, since neither an enum nor a struct is a result in C.
 use umlazgrin::Answer;
 use umlazgrin::EvalAnswer;
+use umlazgrin::FaultAnswer;
 use umlazgrin::MatchAnswer;
 use umlazgrin::ReadAnswer;
 use umlazgrin::WriteAnswer;
@@ -12,6 +13,7 @@ ghost use Rattle.form.specs.Bytes as forms;
 ghost use Rattle.evaluation.specs.Bytes as evaluation;
 ghost use Rattle.matcher.specs.Outcome as matcher;
 ghost use Rattle.texts.specs.Outcomes as notation;
+ghost use Rattle.texts.specs.Faults as faults;
 ghost use Rattle.library.specs.Reports.{Reports};
 
 // What the matcher returns beside the refusals' numbers.
@@ -187,6 +189,24 @@ pub extern "C" fn umlazgrin_evaluate_text(
         EvalAnswer::Refused(e) => refusals::number_of(e),
         EvalAnswer::Value(length, steps, units) => {
             *report = [length, steps, units];
+            0
+        }
+    }
+}
+
+// Says where the text stops, if it does not parse. report: 1 and the place, or 0 and 0.
+#[no_mangle]
+pub extern "C" fn umlazgrin_text_fault(text: &[u8], room: &mut [u8], report: &mut [usize; 2]) -> u8
+    ensures { λ n. ⌜ Reports (faults.fault-outcome (now (text .entry)) (length (now (room .entry)))) (now (room .entry)) (now (room .exit)) [] [] (now (report .entry)) (now (report .exit)) n ⌝ }
+{
+    match umlazgrin::text_fault(text, room) {
+        FaultAnswer::Refused(e) => refusals::number_of(e),
+        FaultAnswer::At(place) => {
+            *report = [1, place];
+            0
+        }
+        FaultAnswer::NoFault => {
+            *report = [0, 0];
             0
         }
     }

@@ -1,8 +1,10 @@
 pub mod HexLaws
+pub mod Signs
 pub mod WordLaws
 pub mod TokenLaws
 pub mod ParseLaws
 pub mod ReadBack
+pub mod Faults
 pub mod Short
 pub mod Choice
 pub mod Signed

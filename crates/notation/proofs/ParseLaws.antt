@@ -5,11 +5,10 @@ use mathlib.Core.List.{List, [], _∷_, _++_, append-assoc, append-nil}
 use mathlib.Core.Bool.{Bool, true, false}
 use lib.ListN.{length, length-append}
 use native.Mathlib.Omega.{arith}
-use Rattle.refusals.specs.declared.Refusal.the-variants.{NoParse}
 use Rattle.meaning.specs.Tree.{Tree, atom, pair, nil}
 use Rattle.meaning.specs.Meter.{done, _>>=_, _>>_, give, hold}
 use Rattle.meaning.specs.Form.{IsBytes, EveryAtom}
-use Rattle.meaning.proofs.MeterLaws.{bind-at, seq-at}
+use Rattle.meaning.proofs.MeterLaws.{bind-at}
 use Rattle.notation.specs.declared.Place.{Place}
 use Rattle.notation.specs.declared.Place.the-variants.{Operator, Code}
 use Rattle.notation.specs.Words.{atom-text}
@@ -43,8 +42,7 @@ module _ (rest : Place → Bool → P Tree) where
   last-read : (p : Place) (b w : List ℕ) (ts : List Token) → WordFor p b w → in-list rest p true dot (word w ∷ closing ∷ ts) ≡ done (atom b) ts
   unfolding in-list last-part next-token first-token closes give hold _>>_ _>>=_
   last-read p b w ts f =
-      seq-at (hold true NoParse) (last-part rest p) (word w ∷ closing ∷ ts) (word w ∷ closing ∷ ts) tt refl
-      ∙ bind-at next-token (λ t. element (rest p false) p t >>= λ e. next-token >>= λ c. closes c >> give e) (word w ∷ closing ∷ ts) (closing ∷ ts) (word w) refl
+      bind-at next-token (λ t. element (rest p false) p t >>= λ e. next-token >>= λ c. closes c >> give e) (word w ∷ closing ∷ ts) (closing ∷ ts) (word w) refl
       ∙ bind-at (element (rest p false) p (word w)) (λ e. next-token >>= λ c. closes c >> give e) (closing ∷ ts) (closing ∷ ts) (atom b)
       (word-element (rest p false) p b w (closing ∷ ts) f)
 

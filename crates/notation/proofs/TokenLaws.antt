@@ -8,7 +8,8 @@ use Rattle.notation.specs.declared.Place.{Place}
 use Rattle.notation.specs.declared.Place.the-variants.{Code}
 use Rattle.notation.specs.Words.{atom-text}
 use Rattle.notation.specs.Texts.{head-in, after, text-at, text-rest, text-of}
-use Rattle.notation.specs.Grammar.{Token, opening, closing, dot, word, kind-of, ending, tokens-from, tokens}
+use Rattle.notation.specs.Grammar.{Token, opening, closing, dot, word, kind-of, word-or-dot, tokens}
+use Rattle.notation.proofs.Signs.{ended, tokens-from, tokens-are}
 use Rattle.notation.proofs.WordLaws.{Plains, WordFor, word-for}
 
 -- ---- the tokens of a tree
@@ -39,7 +40,7 @@ unfoldable mutual
 
 -- a word ends before this text
 unfoldable pub Stops : List ℕ → Type 0
-Stops rest = (w : List ℕ) → tokens-from rest w ≡ ending w (tokens-from rest [])
+Stops rest = (w : List ℕ) → tokens-from rest w ≡ ended w (tokens-from rest [])
 
 -- plain bytes lengthen the word that was begun
 plain-run : (w rest v : List ℕ) → Plains w → tokens-from (w ++ rest) v ≡ tokens-from rest (v ++ w)
@@ -53,36 +54,36 @@ word-tokens p b w rest f s = plain-run w rest [] (f .plain) ∙ s w ∙ f .ends 
 
 -- a word ends before the rest of a list
 stops-rest : (t : Tree) (p : Place) (rest : List ℕ) → Stops (text-rest t p ++ rest)
-unfolding Stops text-rest tokens-from kind-of ending
+unfolding Stops text-rest tokens-from kind-of ended
 stops-rest (atom []) p rest w = refl
 stops-rest (atom (b ∷ bs)) p rest w = refl
 stops-rest (pair l r) p rest w = refl
 
 stops-end : Stops []
-unfolding Stops tokens-from ending
+unfolding Stops tokens-from ended
 stops-end w = refl
 
 stops-closing : (rest : List ℕ) → Stops (0x29 ∷ rest)
-unfolding Stops tokens-from kind-of ending
+unfolding Stops tokens-from kind-of ended
 stops-closing rest w = refl
 
 -- ---- parts of a text
 
 -- "(" and a blank are no part of a word, and a dot between blanks is one
 open-token : (cs : List ℕ) → tokens-from (0x28 ∷ cs) [] ≡ opening ∷ tokens-from cs []
-unfolding tokens-from kind-of ending
+unfolding tokens-from kind-of ended
 open-token cs = refl
 
 blank-token : (cs : List ℕ) → tokens-from (0x20 ∷ cs) [] ≡ tokens-from cs []
-unfolding tokens-from kind-of ending
+unfolding tokens-from kind-of ended
 blank-token cs = refl
 
 close-token : (cs : List ℕ) → tokens-from (0x29 ∷ cs) [] ≡ closing ∷ tokens-from cs []
-unfolding tokens-from kind-of ending
+unfolding tokens-from kind-of ended
 close-token cs = refl
 
 dot-token : (cs : List ℕ) → tokens-from (0x20 ∷ 0x2e ∷ 0x20 ∷ cs) [] ≡ dot ∷ tokens-from cs []
-unfolding tokens-from kind-of ending is-byte
+unfolding tokens-from kind-of ended word-or-dot is-byte
 dot-token cs = refl
 
 -- two parts, one after the other
@@ -131,8 +132,9 @@ tree-tokens (pair l r) (h, i) =
 
 -- the tokens of a whole text
 pub text-tokens : (t : Tree) → EveryAtom IsBytes t → tokens (text-of t) ≡ first-at t Code ∷ more-at t Code
-unfolding tokens text-of tokens-from ending TokensAt
+unfolding text-of tokens-from ended TokensAt
 text-tokens t h =
-    ap (λ x. tokens-from x []) (sym (append-nil (text-at t Code)))
+    tokens-are (text-of t)
+    ∙ ap (λ x. tokens-from x []) (sym (append-nil (text-at t Code)))
     ∙ tree-tokens t h .0 Code [] stops-end
     ∙ ap (first-at t Code ∷_) (append-nil (more-at t Code))

@@ -15,7 +15,8 @@ use Rattle.notation.specs.declared.Place.{Place}
 use Rattle.notation.specs.declared.Place.the-variants.{Operator, Code, Data}
 use Rattle.notation.specs.declared.Kind.the-variants.{Plain}
 use Rattle.notation.specs.Words.{names, name-of, name-at, numbered, named, hex, hex-word, and-then, or-else, atom-text, word-bytes}
-use Rattle.notation.specs.Grammar.{Token, word, kind-of, ending}
+use Rattle.notation.specs.Grammar.{Token, word, kind-of, word-or-dot}
+use Rattle.notation.proofs.Signs.{ended}
 use Rattle.notation.proofs.HexLaws.{hex-back, digit-plain}
 
 -- every byte belongs to a word
@@ -26,7 +27,7 @@ Plains (c ∷ cs) = (kind-of c ≡ Plain) × Plains cs
 -- w is a word, and stands for the bytes b at the place p
 pub record WordFor (p : Place) (b w : List ℕ) : Type 0 where
   pub plain : Plains w
-  pub ends : (ts : List Token) → ending w ts ≡ word w ∷ ts
+  pub ends : (ts : List Token) → ended w ts ≡ word w ∷ ts
   pub reads : word-bytes p w ≡ some b
 
 -- ---- hex
@@ -48,7 +49,7 @@ unfolding word-bytes hex-word hex or-else
 hex-read p b bs h = rw (not-named p 0x30 0x78 (hex (b ∷ bs)), hex-back (b ∷ bs) h, word-bytes)
 
 pub hex-for : (p : Place) (b : ℕ) (bs : List ℕ) → IsBytes (b ∷ bs) → WordFor p (b ∷ bs) (0x30 ∷ 0x78 ∷ hex (b ∷ bs))
-unfolding Plains kind-of ending is-byte
+unfolding Plains kind-of ended word-or-dot is-byte
 hex-for p b bs h = record { plain = (refl, (refl, hex-plain (b ∷ bs))); ends = λ ts. refl; reads = hex-read p b bs h }
 
 -- ---- names
@@ -75,7 +76,7 @@ NameFor : ℕ → Type 0
 NameFor k = WordFor Operator (k ∷ []) (name k ∷ [])
 
 names-for : (k : ℕ) → 1 ≤ k → k ≤ 9 → NameFor k
-unfolding NameFor Plains kind-of ending is-byte word-bytes named numbered and-then or-else
+unfolding NameFor Plains kind-of ended word-or-dot is-byte word-bytes named numbered and-then or-else
 names-for = one-by-one NameFor
     (record { plain = (refl, tt); ends = λ ts. refl; reads = refl })
     (record { plain = (refl, tt); ends = λ ts. refl; reads = refl })

@@ -1,8 +1,8 @@
 -- Document 02, "Ask 1": the tree of a text, or none.
-use Prim.Native.Nat.{ℕ, zero, suc}
+use Prim.Native.Nat.{ℕ, zero, suc, _+_, _-_}
 use mathlib.Core.List.{List, [], _∷_, _++_}
 use mathlib.Core.Bool.{Bool, true, false, _&&_}
-use mathlib.Core.Option.{Option, none, some}
+use mathlib.Core.Option.{none, some}
 use lib.Dec.{eqb, leb}
 use lib.ListN.{length}
 use Rattle.refusals.specs.declared.Refusal.the-variants.{NoParse, TextLong}
@@ -16,12 +16,16 @@ use Rattle.notation.specs.declared.Kind.the-variants.{Blank, Opens, Clos
 use Rattle.notation.specs.Words.{word-bytes}
 use Rattle.notation.specs.Texts.{text-limit, head-in, after}
 
--- ---- tokens
+-- ---- tokens, and where they begin
 
 -- brackets, a dot that stands alone, a word, quoted text; or what no text may have
 pub data Token : Type 0 where
   opening closing dot wrong : Token
   word quoted : List ℕ → Token
+
+-- a token, and the number of the byte at which it begins, from 0 on
+pub data Spot : Type 0 where
+  spot : Token → ℕ → Spot
 
 -- what a byte does outside quotes: space, tab, CR, LF separate; "lists in parentheses", "double-quoted text"
 unfoldable pub kind-of : ℕ → Kind
@@ -42,42 +46,57 @@ kind-of c = elim (eqb c 0x20) [
   ]
 ]
 
--- a word that ends, before what follows it; none where none was begun
-unfoldable pub ending : List ℕ → List Token → List Token
+-- a dot alone is no word
+unfoldable pub word-or-dot : List ℕ → Token
 unfolding is-byte
-ending [] ts = ts
-ending (c ∷ cs) ts = elim (is-byte 0x2e (c ∷ cs)) [ true ↦ dot ∷ ts | false ↦ word (c ∷ cs) ∷ ts ]
+word-or-dot w = elim (is-byte 0x2e w) [ true ↦ dot | false ↦ word w ]
+
+-- a word that ends before the byte i, before what follows it; none where none was begun
+unfoldable pub ending : List ℕ → ℕ → List Spot → List Spot
+unfolding word-or-dot
+ending [] i ss = ss
+ending (c ∷ cs) i ss = spot (word-or-dot (c ∷ cs)) (i - length (c ∷ cs)) ∷ ss
 
 unfoldable mutual
   unfolding kind-of ending
 
-  -- the tokens of a text, where the word w was begun
-  pub tokens-from : List ℕ → List ℕ → List Token
-  tokens-from [] w = ending w []
-  tokens-from (c ∷ cs) w = elim (kind-of c) [
-    | Plain ↦ tokens-from cs (w ++ (c ∷ []))
-    | Blank ↦ ending w (tokens-from cs [])
-    | Opens ↦ ending w (opening ∷ tokens-from cs [])
-    | Closes ↦ ending w (closing ∷ tokens-from cs [])
-    | Quotes ↦ ending w (quoted-from cs [])
+  -- the tokens of a text from the byte i on, where the word w was begun
+  pub spots-from : List ℕ → ℕ → List ℕ → List Spot
+  spots-from [] i w = ending w i []
+  spots-from (c ∷ cs) i w = elim (kind-of c) [
+    | Plain ↦ spots-from cs (i + 1) (w ++ (c ∷ []))
+    | Blank ↦ ending w i (spots-from cs (i + 1) [])
+    | Opens ↦ ending w i (spot opening i ∷ spots-from cs (i + 1) [])
+    | Closes ↦ ending w i (spot closing i ∷ spots-from cs (i + 1) [])
+    | Quotes ↦ ending w i (quoted-from cs (i + 1) i [])
   ]
 
-  -- "quoted text is bytes `20` to `7e` without the quote"; a quote that is not closed is wrong
-  pub quoted-from : List ℕ → List ℕ → List Token
-  quoted-from [] s = wrong ∷ []
-  quoted-from (c ∷ cs) s = elim (eqb c 0x22) [
-    | true ↦ quoted s ∷ tokens-from cs []
-    | false ↦ elim (leb 0x20 c && leb c 0x7e) [ true ↦ quoted-from cs (s ++ (c ∷ [])) | false ↦ wrong ∷ [] ]
+  -- "quoted text is bytes `20` to `7e` without the quote": what follows the quote at q. Another byte there is wrong; so is a quote that is not closed
+  pub quoted-from : List ℕ → ℕ → ℕ → List ℕ → List Spot
+  quoted-from [] i q s = spot wrong q ∷ []
+  quoted-from (c ∷ cs) i q s = elim (eqb c 0x22) [
+    | true ↦ spot (quoted s) q ∷ spots-from cs (i + 1) []
+    | false ↦ elim (leb 0x20 c && leb c 0x7e) [ true ↦ quoted-from cs (i + 1) q (s ++ (c ∷ [])) | false ↦ spot wrong i ∷ [] ]
   ]
+
+-- the tokens of a text, with their places
+unfoldable pub spots : List ℕ → List Spot
+unfolding spots-from
+spots text = spots-from text 0 []
+
+-- the tokens alone
+unfoldable pub signs : List Spot → List Token
+signs [] = []
+signs (spot t i ∷ ss) = t ∷ signs ss
 
 -- the tokens of a text
 unfoldable pub tokens : List ℕ → List Token
-unfolding tokens-from
-tokens text = tokens-from text []
+unfolding spots signs
+tokens text = signs (spots text)
 
 -- ---- lists
 
--- work over the tokens that are left: refusal 15 is all that can stop it
+-- work over the tokens that are left: refusal 15 is all that can stop it, and leaves the token at which it came, and those after it
 abbrev pub P : Type 0 → Type 0
 P A = M (List Token) A
 
@@ -90,25 +109,29 @@ unfoldable pub next-token : P Token
 unfolding first-token
 next-token = λ ts. first-token ts
 
+-- the token t, which was the next, may not stand there
+unfoldable pub misplaced : {A : Type 0} → Token → P A
+misplaced t = λ ts. stop NoParse (t ∷ ts)
+
 -- an atom at a place, or a list, which `list` reads
 unfoldable pub element : P Tree → Place → Token → P Tree
-unfolding word-bytes give refuse
+unfolding word-bytes give misplaced
 element list p opening = list
-element list p (word w) = elim (word-bytes p w) [ some b ↦ give (atom b) | none ↦ refuse NoParse ]
+element list p (word w) = elim (word-bytes p w) [ some b ↦ give (atom b) | none ↦ misplaced (word w) ]
 element list p (quoted s) = give (atom s)
-element list p closing = refuse NoParse
-element list p dot = refuse NoParse
-element list p wrong = refuse NoParse
+element list p closing = misplaced closing
+element list p dot = misplaced dot
+element list p wrong = misplaced wrong
 
 -- the bracket that must follow a last part
 unfoldable pub closes : Token → P (Unit {0})
-unfolding give refuse
+unfolding give misplaced
 closes closing = give tt
-closes opening = refuse NoParse
-closes dot = refuse NoParse
-closes wrong = refuse NoParse
-closes (word w) = refuse NoParse
-closes (quoted s) = refuse NoParse
+closes opening = misplaced opening
+closes dot = misplaced dot
+closes wrong = misplaced wrong
+closes (word w) = misplaced (word w)
+closes (quoted s) = misplaced (quoted s)
 
 -- the rest of a list is read by `rest`, from the place of the next element on, and whether an element came before
 module _ (rest : Place → Bool → P Tree) where
@@ -132,13 +155,13 @@ module _ (rest : Place → Bool → P Tree) where
 
   -- what the token t begins in a list
   unfoldable pub in-list : Place → Bool → Token → P Tree
-  unfolding element-and-rest last-part hold give refuse _>>_
+  unfolding element-and-rest last-part give misplaced
   in-list p begun closing = give nil
-  in-list p begun dot = hold begun NoParse >> last-part p
+  in-list p begun dot = elim begun [ true ↦ last-part p | false ↦ misplaced dot ]
   in-list p begun opening = element-and-rest p opening
   in-list p begun (word w) = element-and-rest p (word w)
   in-list p begun (quoted s) = element-and-rest p (quoted s)
-  in-list p begun wrong = refuse NoParse
+  in-list p begun wrong = misplaced wrong
 
 -- the rest of a list. (The count is of tokens: as many as there are is enough.)
 unfoldable pub rest-of : ℕ → Place → Bool → P Tree

@@ -18,10 +18,11 @@ use Rattle.match_line.proofs.Names as matches
 use Rattle.rule_line.specs.Line.{rule-line}
 use Rattle.rule_line.proofs.Telling as rules
 use Rattle.texts.specs.Outcomes.{read-text-outcome, write-text-outcome, optimise-text-outcome, evaluate-text-outcome}
-use Rattle.text_line.specs.Line.{text-line, bare-line}
+use Rattle.texts.specs.Faults.{fault-outcome}
+use Rattle.text_line.specs.Line.{text-line, bare-line, fault-line}
 use Rattle.text_line.proofs.Counts as texts
 use Rattle.serve.specs.declared.Program.{Program}
-use Rattle.serve.specs.declared.Program.the-variants.{Optimise, Evaluate, Match, Rule, Read, ReadText, WriteText, OptimiseText, EvaluateText}
+use Rattle.serve.specs.declared.Program.the-variants.{Optimise, Evaluate, Match, Rule, Read, ReadText, WriteText, OptimiseText, EvaluateText, TextFault}
 use Rattle.serve.specs.Reply.{reply}
 
 pub reply-short : (p : Program) (f : List ℕ) (first room out : ℕ) → out ≤ out-most → length (reply p room out f first) ≤ line-most
@@ -35,6 +36,7 @@ reply-short ReadText f first room out h = outcomes.line-short out (read-text-out
 reply-short WriteText f first room out h = texts.bare-short out (write-text-outcome f room out) h (texts.written-counted f room out)
 reply-short OptimiseText f first room out h = texts.text-short out (optimise-text-outcome f room out) h (texts.optimised-counted f room out)
 reply-short EvaluateText f first room out h = texts.text-short out (evaluate-text-outcome f first room out) h (texts.evaluated-counted f first room out)
+reply-short TextFault f first room out h = texts.fault-short f room
 
 module _ (p : Program) (f : List ℕ) (first room out : ℕ) (t t′ : List ℕ) (at r : ℕ) where
   pub optimised : Printed (line-of (run f room out)) t t′ at r → p ≡ Optimise → Printed (reply p room out f first) t t′ at r
@@ -72,6 +74,10 @@ module _ (p : Program) (f : List ℕ) (first room out : ℕ) (t t′ : List ℕ)
   pub text-evaluated : Printed (text-line (evaluate-text-outcome f first room out)) t t′ at r → p ≡ EvaluateText → Printed (reply p room out f first) t t′ at r
   unfolding reply
   text-evaluated h e = rw e h
+
+  pub text-faulted : Printed (fault-line (fault-outcome f room)) t t′ at r → p ≡ TextFault → Printed (reply p room out f first) t t′ at r
+  unfolding reply
+  text-faulted h e = rw e h
 
 -- a turn on a form: its reply is short enough to stand whole
 pub turned : (p : Program) (forms text text′ : List ℕ) (s q : Lines) (at k room out : ℕ) → Printed (reply p room out (take (q .n) forms) (q .first)) text text′ at k → Cleared text (q .put) at → Came forms s q → q .got ≡ Form → out ≤ out-most

@@ -11,13 +11,14 @@ use Rattle.outcome.specs.Line.{line-of}
 use Rattle.match_line.specs.Line.{match-line}
 use Rattle.rule_line.specs.Line.{rule-line}
 use Rattle.texts.specs.Outcomes.{read-text-outcome, write-text-outcome, optimise-text-outcome, evaluate-text-outcome}
-use Rattle.text_line.specs.Line.{text-line, bare-line}
+use Rattle.texts.specs.Faults.{fault-outcome}
+use Rattle.text_line.specs.Line.{text-line, bare-line, fault-line}
 use Rattle.serve.specs.declared.Program.{Program}
-use Rattle.serve.specs.declared.Program.the-variants.{Optimise, Evaluate, Match, Rule, Read, ReadText, WriteText, OptimiseText, EvaluateText}
+use Rattle.serve.specs.declared.Program.the-variants.{Optimise, Evaluate, Match, Rule, Read, ReadText, WriteText, OptimiseText, EvaluateText, TextFault}
 
 -- the program, how many bytes of room are lent, how many of output; the bytes, and how many of them are the first line's
 unfoldable pub reply : Program → ℕ → ℕ → List ℕ → ℕ → List ℕ
-unfolding line-of match-line rule-line text-line bare-line
+unfolding line-of match-line rule-line text-line bare-line fault-line
 reply Optimise room out forms first = line-of (run forms room out)
 reply Evaluate room out forms first = line-of (outcome forms first room out)
 reply Match room out forms first = match-line forms first room out
@@ -27,6 +28,7 @@ reply ReadText room out texts first = line-of (read-text-outcome texts room out)
 reply WriteText room out forms first = bare-line (write-text-outcome forms room out)
 reply OptimiseText room out texts first = text-line (optimise-text-outcome texts room out)
 reply EvaluateText room out texts first = text-line (evaluate-text-outcome texts first room out)
+reply TextFault room out text first = fault-line (fault-outcome text room)
 
 -- the lent bytes are enough: room for a rule, an output whose line fits the text
 pub record Lent (room out text : List ℕ) : Type 0 where

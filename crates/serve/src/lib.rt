@@ -28,6 +28,8 @@ pub enum Program {
     OptimiseText,
     // A program's text and its environment's: the value as text.
     EvaluateText,
+    // A text: where it stops, if it does not parse.
+    TextFault,
 }
 
 // How the program's lines spell bytes.
@@ -42,6 +44,7 @@ fn spelling(which: Program) -> Spelling {
         Program::WriteText => Spelling::Hex,
         Program::OptimiseText => Spelling::Raw,
         Program::EvaluateText => Spelling::Raw,
+        Program::TextFault => Spelling::Raw,
     }
 }
 
@@ -57,6 +60,7 @@ fn takes_two(which: Program) -> bool {
         Program::WriteText => false,
         Program::OptimiseText => false,
         Program::EvaluateText => true,
+        Program::TextFault => false,
     }
 }
 
@@ -94,6 +98,7 @@ fn answer(
         Program::WriteText => text_line::print_written(forms, room, out, text, at),
         Program::OptimiseText => text_line::print_optimised(forms, room, out, text, at),
         Program::EvaluateText => text_line::print_evaluated(forms, first, room, out, text, at),
+        Program::TextFault => text_line::print_fault(forms, room, text, at),
     }
 }
 

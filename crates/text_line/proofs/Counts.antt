@@ -2,23 +2,30 @@
 use Prim.Native.Nat.{ℕ, _+_, _*_, _≤_}
 use mathlib.Core.Path.{_≡_}
 use mathlib.Core.List.{List, [], _∷_}
+use mathlib.Core.Option.{Option, none, some}
 use native.Mathlib.Omega.{arith}
+use lib.Dec.{leb}
 use lib.ListN.{length, take, drop, length-append}
 use Rattle.meaning.specs.Tree.{Tree}
 use Rattle.meaning.specs.Form.{read-form}
-use Rattle.meaning.specs.Outcome.{Outcome, plain, answered}
+use Rattle.meaning.specs.Limits.{room-least}
+use Rattle.meaning.specs.Outcome.{Outcome, plain, answered, refused, in-room}
 use Rattle.meaning.specs.Run.{mark-number, worked-on}
 use Rattle.meaning.proofs.Lent.{every}
+use Rattle.meaning.proofs.Yields.{either-way}
 use Rattle.form.specs.Bytes as form
 use Rattle.evaluation.specs.Bytes as evaluation
-use Rattle.notation.specs.Texts.{text-of}
+use Rattle.refusals.specs.declared.Refusal.the-variants.{RoomSmall, TextLong}
+use Rattle.notation.specs.Texts.{text-limit, text-of}
+use Rattle.notation.specs.Faults.{fault}
 use Rattle.notation.specs.Grammar.{read-text}
+use Rattle.texts.specs.Faults.{seen-fault, fault-outcome, delivered-fault}
 use Rattle.texts.specs.Outcomes.{deliver-text, read-text-outcome, delivered-text, write-text-outcome, delivered-run, optimise-text-outcome, read-texts, delivered-value, evaluate-text-outcome}
 use Rattle.lines.specs.Text.{out-most, line-most, numbers-line}
-use Rattle.lines.proofs.Lengths.{end-most}
+use Rattle.lines.proofs.Lengths.{end-most, no-most}
 use Rattle.outcome.specs.Line.{line-with}
 use Rattle.outcome.proofs.Outcomes.{Counted, counted-refused, counted-deliver, counted-tree, with-most}
-use Rattle.text_line.specs.Line.{ok-text, text-and, text-line, bare-line}
+use Rattle.text_line.specs.Line.{ok-text, text-and, text-line, bare-line, fault-words, fault-line}
 
 -- ---- the length is told first
 
@@ -65,3 +72,16 @@ bare-short m o h c = with-most (λ bytes ns. text-and bytes []) o (λ bytes ns e
   where
     go : (bytes ns : List ℕ) → Counted m (answered bytes plain ns) → length (text-and bytes []) ≤ line-most
     go bytes ns d = and-most m bytes [] h (d .0) (omega arith)
+
+-- a place, or that there is none
+faulted : (o : Option ℕ) → length (fault-line (delivered-fault o)) ≤ line-most
+unfolding fault-line line-with fault-words delivered-fault
+faulted (some p) = let e : length (numbers-line (p ∷ [])) ≤ 21 * length (p ∷ []) + 1 = end-most (p ∷ []) in omega arith
+faulted none = omega arith
+
+pub fault-short : (f : List ℕ) (room : ℕ) → length (fault-line (fault-outcome f room)) ≤ line-most
+unfolding fault-line line-with fault-outcome seen-fault in-room
+fault-short f room =
+    either-way (λ (o : Outcome). length (fault-line o) ≤ line-most) (leb room-least room) (seen-fault f) (refused RoomSmall)
+    (either-way (λ (o : Outcome). length (fault-line o) ≤ line-most) (leb (length f) text-limit) (delivered-fault (fault f)) (refused TextLong) (faulted (fault f)) (no-most 16))
+    (no-most 1)

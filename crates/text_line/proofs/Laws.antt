@@ -1,5 +1,5 @@
 -- The line that is printed is the outcome's. Assumes nothing.
-use mathlib.Core.Path.{_≡_, refl, sym, _∙_, ap}
+use mathlib.Core.Path.{_≡_, refl, sym, _∙_, ap, subst}
 use mathlib.Core.List.{List, [], _∷_}
 use Prim.Native.Nat.{ℕ, _≤_}
 use lib.ListN.{length, take, drop}
@@ -7,6 +7,7 @@ use mir.Val.{boolByte}
 use Rattle.refusals.specs.declared.Refusal.{Refusal}
 use Rattle.refusals.specs.Numbers.{number-of}
 use Rattle.meaning.specs.Outcome.{Outcome, plain, values, Settles}
+use Rattle.meaning.proofs.Lent.{Answers, told-answer}
 use Rattle.optimiser.specs.declared.Report.{Report}
 use Rattle.optimiser.specs.declared.Answer.{Answer}
 use Rattle.optimiser.specs.declared.Answer.the-variants.{Answered, Refused}
@@ -20,9 +21,12 @@ use Rattle.form.specs.Bytes.{write-says}
 use Rattle.texts.specs.Outcomes.{read-text-outcome, write-text-outcome, optimise-text-outcome, evaluate-text-outcome}
 use Rattle.lines.specs.Text.{Printed, numbers-text, numbers-line, no-number}
 use Rattle.lines.proofs.Printing.{joined}
-use Rattle.outcome.specs.Line.{ok-line, line-of}
+use Rattle.outcome.specs.Line.{line-with, ok-line, line-of}
 use Rattle.outcome.proofs.Laws.{Stands, count, line-stands, stands, refusal-told, mark-byte}
-use Rattle.text_line.specs.Line.{ok-text, text-and, text-line, bare-line}
+use Rattle.texts.specs.declared.FaultAnswer.{FaultAnswer}
+use Rattle.texts.specs.declared.FaultAnswer.the-variants.{At, NoFault, Refused as not-seen}
+use Rattle.texts.specs.Faults.{fault-outcome, fault-says}
+use Rattle.text_line.specs.Line.{ok-text, text-and, text-line, bare-line, fault-words, fault-line}
 use Rattle.text_line.proofs.Counts.{read-counted, written-counted, optimised-counted, evaluated-counted}
 
 -- ---- what is printed piece by piece
@@ -138,3 +142,25 @@ module _ (f : List ℕ) (first : ℕ) (s w s′ w′ : List ℕ) (a : EvalAnswer
   pub evaluated-no : (e : Refusal) (n : ℕ) (t t′ : List ℕ) (at k : ℕ) → Printed (no-number n) t t′ at k → n ≡ number-of e → a ≡ no-value e → Printed (text-line (evaluate-text-outcome f first (length s) (length w))) t t′ at k
   unfolding evaluation.says text-line
   evaluated-no e n t t′ at k z i j = refusal-told evaluation.says _ s s′ w w′ a h e n t t′ at k (ap evaluation.says j) i z _
+
+-- ---- `text_fault`
+
+module _ (f s s′ : List ℕ) (a : FaultAnswer) (h : Settles fault-says (fault-outcome f (length s)) s s′ [] [] a) where
+  -- what is told of a fault is its line
+  told-line : (ns t t′ : List ℕ) (at k : ℕ) → fault-says a ≡ values plain ns → Printed (fault-words ns) t t′ at k → Printed (fault-line (fault-outcome f (length s))) t t′ at k
+  unfolding fault-line line-with
+  told-line ns t t′ at k e z =
+      let b : Answers (fault-outcome f (length s)) plain ns [] [] = told-answer (fault-outcome f (length s)) plain ns [] [] (sym e ∙ h .delivers .answer) (h .delivers .out) in
+      subst (λ (o : Outcome). Printed (fault-line o) t t′ at k) (sym (b .is)) z
+
+  pub fault-at : (p : ℕ) (t u v : List ℕ) (at k m : ℕ) → Printed (numbers-line (p ∷ [])) u v k m → Printed (97 ∷ 116 ∷ []) t u at k → a ≡ At p → Printed (fault-line (fault-outcome f (length s))) t v at m
+  unfolding fault-says fault-words
+  fault-at p t u v at k m z y i = told-line (1 ∷ p ∷ []) t v at m (ap fault-says i) (joined (97 ∷ 116 ∷ []) (numbers-line (p ∷ [])) t u v at k m z y)
+
+  pub fault-none : (t t′ : List ℕ) (at k : ℕ) → Printed (110 ∷ 111 ∷ 32 ∷ 102 ∷ 97 ∷ 117 ∷ 108 ∷ 116 ∷ 10 ∷ []) t t′ at k → a ≡ NoFault → Printed (fault-line (fault-outcome f (length s))) t t′ at k
+  unfolding fault-says fault-words
+  fault-none t t′ at k z i = told-line (0 ∷ 0 ∷ []) t t′ at k (ap fault-says i) z
+
+  pub fault-no : (e : Refusal) (n : ℕ) (t t′ : List ℕ) (at k : ℕ) → Printed (no-number n) t t′ at k → n ≡ number-of e → a ≡ not-seen e → Printed (fault-line (fault-outcome f (length s))) t t′ at k
+  unfolding fault-says fault-line
+  fault-no e n t t′ at k z i j = refusal-told fault-says _ s s′ [] [] a h e n t t′ at k (ap fault-says j) i z _

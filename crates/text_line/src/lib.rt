@@ -1,13 +1,15 @@
-// The outcomes of `read_text`, `write_text`, `optimise_text` and `evaluate_text` as one line of text each. A tree that is written as text
+// The outcomes of `read_text`, `write_text`, `optimise_text`, `evaluate_text` and `text_fault` as one line of text each. A tree that is written as text
 // is printed as it stands.
 use evaluation::EvalAnswer;
 use form::WriteAnswer;
 use optimiser::Answer;
+use texts::FaultAnswer;
 ghost use lib.ListN.{length};
 ghost use Rattle.lines.specs.Text.{Printed};
 ghost use Rattle.outcome.specs.Line.{line-of};
 ghost use Rattle.texts.specs.Outcomes.{read-text-outcome, write-text-outcome, optimise-text-outcome, evaluate-text-outcome};
-ghost use Rattle.text_line.specs.Line.{ok-text, text-and, text-line, bare-line};
+ghost use Rattle.texts.specs.Faults.{fault-outcome};
+ghost use Rattle.text_line.specs.Line.{ok-text, text-and, text-line, bare-line, fault-line};
 
 // Prints `ok` and an answer's text after text[..at].
 fn print_ok(answer: &[u8], text: &mut [u8], at: usize) -> usize
@@ -99,6 +101,21 @@ pub fn print_evaluated(
         EvalAnswer::Value(n, steps, units) => {
             let numbers = [steps, units];
             print_answer(&out[..n], &numbers, text, at)
+        }
+    }
+}
+
+// Prints where a source stops: `at` and the place, or `no fault`.
+pub fn print_fault(source: &[u8], room: &mut [u8], text: &mut [u8], at: usize) -> usize
+    ensures { λ k. ⌜ Printed (fault-line (fault-outcome (now (source .entry)) (length (now (room .entry))))) (now (text .entry)) (now (text .exit)) at k ⌝ }
+{
+    match texts::text_fault(source, room) {
+        FaultAnswer::Refused(e) => lines::print_no(text, at, refusals::number_of(e)),
+        FaultAnswer::NoFault => lines::print_word(text, at, b"no fault\n"),
+        FaultAnswer::At(p) => {
+            let numbers = [p];
+            let a = lines::print_word(text, at, b"at");
+            lines::print_numbers(text, a, &numbers)
         }
     }
 }

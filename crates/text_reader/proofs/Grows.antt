@@ -15,17 +15,17 @@ use Rattle.notation.specs.declared.Place.{Place}
 use Rattle.notation.specs.declared.Place.the-variants.{Operator, Code, Data}
 use Rattle.notation.specs.Words.{word-bytes}
 use Rattle.notation.specs.Texts.{head-in, is-one, after}
-use Rattle.notation.specs.Grammar.{Token, opening, closing, dot, wrong, word, quoted, P, first-token, next-token, element, closes, element-and-rest, last-part, in-list, rest-of, no-more, all-read, whole}
+use Rattle.notation.specs.Grammar.{Token, opening, closing, dot, wrong, word, quoted, P, first-token, next-token, misplaced, element, closes, element-and-rest, last-part, in-list, rest-of, no-more, all-read, whole}
 use Rattle.text_reader.specs.declared.machine.Want.{Want}
 use Rattle.text_reader.specs.declared.machine.Want.the-variants.{Whole, First, More, Last, Bracket, Nothing}
 use Rattle.text_reader.specs.Machine.{Next, on, no, want-of, back, on-opening, pop, on-closing, on-dot, on-atom, on-word, on-token, at-end, run}
 
 -- what comes of a part that was read
-unfoldable pub onward : {A : Type 0} → Out (List Token) A → (A → List Token → Option (List ℕ)) → Option (List ℕ)
+unfoldable pub onward : {A : Type 0} → Out (List Token) A → (A → List Token → Out (List Token) (List ℕ)) → Out (List Token) (List ℕ)
 onward (done a us) K = K a us
-onward (stop n us) K = none
+onward (stop n us) K = stop n us
 
-onward-bind : {A B : Type 0} (m : P A) (g : A → P B) (ts : List Token) (K : B → List Token → Option (List ℕ)) → onward ((m >>= g) ts) K ≡ onward (m ts) (λ a us. onward (g a us) K)
+onward-bind : {A B : Type 0} (m : P A) (g : A → P B) (ts : List Token) (K : B → List Token → Out (List Token) (List ℕ)) → onward ((m >>= g) ts) K ≡ onward (m ts) (λ a us. onward (g a us) K)
 unfolding onward _>>=_
 onward-bind {A} {B} m g ts K = go (m ts)
   where
@@ -33,12 +33,12 @@ onward-bind {A} {B} m g ts K = go (m ts)
     go (done a us) = refl
     go (stop n us) = refl
 
-onward-same : {A : Type 0} (o : Out (List Token) A) (K L : A → List Token → Option (List ℕ)) → ((a : A) (us : List Token) → o ≡ done a us → K a us ≡ L a us) → onward o K ≡ onward o L
+onward-same : {A : Type 0} (o : Out (List Token) A) (K L : A → List Token → Out (List Token) (List ℕ)) → ((a : A) (us : List Token) → o ≡ done a us → K a us ≡ L a us) → onward o K ≡ onward o L
 unfolding onward
 onward-same (done a us) K L h = h a us refl
 onward-same (stop n us) K L h = refl
 
-onward-bind-give : {A B : Type 0} (m : P A) (g : A → B) (ts : List Token) (K : B → List Token → Option (List ℕ)) → onward ((m >>= λ a. give (g a)) ts) K ≡ onward (m ts) (λ a us. K (g a) us)
+onward-bind-give : {A B : Type 0} (m : P A) (g : A → B) (ts : List Token) (K : B → List Token → Out (List Token) (List ℕ)) → onward ((m >>= λ a. give (g a)) ts) K ≡ onward (m ts) (λ a us. K (g a) us)
 unfolding onward _>>=_ give
 onward-bind-give {A} {B} m g ts K = go (m ts)
   where
@@ -55,7 +55,7 @@ abbrev in-a-list : Place → Bool → Want
 in-a-list p true = More p
 in-a-list p false = First p
 
-list-end : (p : Place) (b : Bool) (f : List ℕ) → at-end (in-a-list p b) f ≡ none
+list-end : (p : Place) (b : Bool) (f : List ℕ) → at-end (in-a-list p b) f ≡ stop NoParse []
 unfolding at-end
 list-end p true f = refl
 list-end p false f = refl
@@ -72,6 +72,10 @@ shorter-give a = record { so = λ ts b us h. let z : us ≡ ts = cc in rw z (ome
 shorter-refuse : {A : Type 0} → Shorter {A = A} (refuse NoParse)
 unfolding refuse
 shorter-refuse = record { so = λ ts b us h. not-stop h }
+
+shorter-misplaced : {A : Type 0} (t : Token) → Shorter {A = A} (misplaced t)
+unfolding misplaced
+shorter-misplaced t = record { so = λ ts b us h. not-stop h }
 
 shorter-bind : {A B : Type 0} {m : P A} {g : A → P B} → Shorter m → ((a : A) → Shorter (g a)) → Shorter (m >>= g)
 shorter-bind {A} {B} {m} {g} h k = record {
@@ -99,27 +103,22 @@ unfolding element
 shorter-element list h p opening = h
 shorter-element list h p (word w) = go (word-bytes p w)
   where
-    go : (o : Option (List ℕ)) → Shorter {A = Tree} (elim o as (λ x. P Tree) [ some b ↦ give (atom b) | none ↦ refuse NoParse ])
+    go : (o : Option (List ℕ)) → Shorter {A = Tree} (elim o as (λ x. P Tree) [ some b ↦ give (atom b) | none ↦ misplaced (word w) ])
     go (some b) = shorter-give (atom b)
-    go none = shorter-refuse
+    go none = shorter-misplaced (word w)
 shorter-element list h p (quoted s) = shorter-give (atom s)
-shorter-element list h p closing = shorter-refuse
-shorter-element list h p dot = shorter-refuse
-shorter-element list h p wrong = shorter-refuse
+shorter-element list h p closing = shorter-misplaced closing
+shorter-element list h p dot = shorter-misplaced dot
+shorter-element list h p wrong = shorter-misplaced wrong
 
 shorter-closes : (t : Token) → Shorter (closes t)
 unfolding closes
 shorter-closes closing = shorter-give tt
-shorter-closes opening = shorter-refuse
-shorter-closes dot = shorter-refuse
-shorter-closes wrong = shorter-refuse
-shorter-closes (word w) = shorter-refuse
-shorter-closes (quoted s) = shorter-refuse
-
-shorter-hold : (b : Bool) → Shorter (hold b NoParse)
-unfolding hold
-shorter-hold true = shorter-give tt
-shorter-hold false = shorter-refuse
+shorter-closes opening = shorter-misplaced opening
+shorter-closes dot = shorter-misplaced dot
+shorter-closes wrong = shorter-misplaced wrong
+shorter-closes (word w) = shorter-misplaced (word w)
+shorter-closes (quoted s) = shorter-misplaced (quoted s)
 
 module _ (rest : Place → Bool → P Tree) (h : (p : Place) (b : Bool) → Shorter (rest p b)) where
   shorter-part : (p : Place) (t : Token) → Shorter (element-and-rest rest p t)
@@ -133,11 +132,12 @@ module _ (rest : Place → Bool → P Tree) (h : (p : Place) (b : Bool) → Shor
   shorter-in : (p : Place) (b : Bool) (t : Token) → Shorter (in-list rest p b t)
   unfolding in-list
   shorter-in p b closing = shorter-give nil
-  shorter-in p b dot = shorter-seq (shorter-hold b) (shorter-last p)
+  shorter-in p true dot = shorter-last p
+  shorter-in p false dot = shorter-misplaced dot
   shorter-in p b opening = shorter-part p opening
   shorter-in p b (word w) = shorter-part p (word w)
   shorter-in p b (quoted s) = shorter-part p (quoted s)
-  shorter-in p b wrong = shorter-refuse
+  shorter-in p b wrong = shorter-misplaced wrong
 
 shorter-rest : (k : ℕ) (p : Place) (b : Bool) → Shorter (rest-of k p b)
 unfolding rest-of
@@ -155,7 +155,7 @@ pair-not-one rest p t ts e us h =
     rw z refl
 
 not-one : (k : ℕ) (p : Place) (ts : List Token) (e : Tree) (us : List Token) → rest-of k p false ts ≡ done e us → is-one e ≡ false
-unfolding rest-of refuse next-token first-token in-list give hold _>>_ _>>=_ is-one
+unfolding rest-of refuse next-token first-token in-list misplaced give _>>=_ is-one
 not-one zero p ts e us h = not-stop h
 not-one (suc k) p [] e us h = not-stop h
 not-one (suc k) p (closing ∷ ts) e us h = let z : e ≡ nil = cc in rw z refl
@@ -175,7 +175,7 @@ back-is Data e h = refl
 -- ---- the machine reads the rest of a list as the definition does
 
 -- what the machine makes of the rest of a list, once it is read
-abbrev goes-on : ℕ → List ℕ → List ℕ → Tree → List Token → Option (List ℕ)
+abbrev goes-on : ℕ → List ℕ → List ℕ → Tree → List Token → Out (List Token) (List ℕ)
 goes-on j st f t us = run us (want-of j) st (f ++ write t)
 
 unfoldable Follows : (Place → Bool → P Tree) → ℕ → Type 0
@@ -206,19 +206,19 @@ module _ (k : ℕ) (ih : Follows (λ q c. rest-of k q c) k) where
 
   follows-word : (ts : List Token) (p : Place) (b : Bool) (v st f : List ℕ)
       → run (word v ∷ ts) (in-a-list p b) st f ≡ onward (element (rest (head-in p) false) p (word v) ts) (λ e us. run us (More (after p e)) st ((f ++ (0xff ∷ [])) ++ write e))
-  unfolding run on-token on-word on-atom element onward give refuse write
+  unfolding run on-token on-word on-atom element onward give refuse misplaced write
   follows-word ts p true v st f = go (word-bytes p v)
     where
       go : (o : Option (List ℕ))
-          → elim (elim o as (λ x. Next) [ some a ↦ on-atom (More p) a st f | none ↦ no ]) as (λ x. Option (List ℕ)) [ on w′ st′ f′ ↦ run ts w′ st′ f′ | no ↦ none ]
-          ≡ onward {A = Tree} (elim o as (λ x. P Tree) [ some a ↦ give (atom a) | none ↦ refuse NoParse ] ts) (λ e us. run us (More (after p e)) st ((f ++ (0xff ∷ [])) ++ write e))
+          → elim (elim o as (λ x. Next) [ some a ↦ on-atom (More p) a st f | none ↦ no ]) as (λ x. Out (List Token) (List ℕ)) [ on w′ st′ f′ ↦ run ts w′ st′ f′ | no ↦ stop NoParse (word v ∷ ts) ]
+          ≡ onward {A = Tree} (elim o as (λ x. P Tree) [ some a ↦ give (atom a) | none ↦ misplaced (word v) ] ts) (λ e us. run us (More (after p e)) st ((f ++ (0xff ∷ [])) ++ write e))
       go (some a) = refl
       go none = refl
   follows-word ts p false v st f = go (word-bytes p v)
     where
       go : (o : Option (List ℕ))
-          → elim (elim o as (λ x. Next) [ some a ↦ on-atom (First p) a st f | none ↦ no ]) as (λ x. Option (List ℕ)) [ on w′ st′ f′ ↦ run ts w′ st′ f′ | no ↦ none ]
-          ≡ onward {A = Tree} (elim o as (λ x. P Tree) [ some a ↦ give (atom a) | none ↦ refuse NoParse ] ts) (λ e us. run us (More (after p e)) st ((f ++ (0xff ∷ [])) ++ write e))
+          → elim (elim o as (λ x. Next) [ some a ↦ on-atom (First p) a st f | none ↦ no ]) as (λ x. Out (List Token) (List ℕ)) [ on w′ st′ f′ ↦ run ts w′ st′ f′ | no ↦ stop NoParse (word v ∷ ts) ]
+          ≡ onward {A = Tree} (elim o as (λ x. P Tree) [ some a ↦ give (atom a) | none ↦ misplaced (word v) ] ts) (λ e us. run us (More (after p e)) st ((f ++ (0xff ∷ [])) ++ write e))
       go (some a) = refl
       go none = refl
 
@@ -245,7 +245,7 @@ module _ (k : ℕ) (ih : Follows (λ q c. rest-of k q c) k) where
 
   -- after a dot
   bracket : (us : List Token) (e : Tree) (j : ℕ) (st f : List ℕ) → run us Bracket (j ∷ st) (f ++ write e) ≡ onward ((next-token >>= λ c. closes c >> give e) us) (goes-on j st f)
-  unfolding run on-token on-opening on-closing on-dot on-atom on-word pop at-end onward next-token first-token closes give refuse _>>=_ _>>_
+  unfolding run on-token on-opening on-closing on-dot on-atom on-word pop at-end onward next-token first-token closes give refuse misplaced _>>=_ _>>_
   bracket [] e j st f = refl
   bracket (closing ∷ us) e j st f = refl
   bracket (opening ∷ us) e j st f = refl
@@ -253,7 +253,7 @@ module _ (k : ℕ) (ih : Follows (λ q c. rest-of k q c) k) where
   bracket (wrong ∷ us) e j st f = refl
   bracket (word v ∷ us) e j st f = go (word-bytes Data v)
     where
-      go : (o : Option (List ℕ)) → _≡_ {A = Option (List ℕ)} (elim (elim o as (λ x. Next) [ some a ↦ no | none ↦ no ]) as (λ x. Option (List ℕ)) [ on w′ st′ f′ ↦ run us w′ st′ f′ | no ↦ none ]) none
+      go : (o : Option (List ℕ)) → _≡_ {A = Out (List Token) (List ℕ)} (elim (elim o as (λ x. Next) [ some a ↦ no | none ↦ no ]) as (λ x. Out (List Token) (List ℕ)) [ on w′ st′ f′ ↦ run us w′ st′ f′ | no ↦ stop NoParse (word v ∷ us) ]) (stop NoParse (word v ∷ us))
       go (some a) = refl
       go none = refl
   bracket (quoted a ∷ us) e j st f = refl
@@ -261,7 +261,7 @@ module _ (k : ℕ) (ih : Follows (λ q c. rest-of k q c) k) where
   -- what is wanted after a dot
   last-element : (ts : List Token) → length ts ≤ suc k → (p : Place) (j : ℕ) (st f : List ℕ)
       → run ts (Last p) (j ∷ st) f ≡ onward ((next-token >>= λ t. element (rest p false) p t) ts) (λ e us. run us Bracket (j ∷ st) (f ++ write e))
-  unfolding run on-token on-opening on-closing on-dot on-atom on-word at-end onward next-token first-token element give refuse _>>=_ write Follows rest want-of
+  unfolding run on-token on-opening on-closing on-dot on-atom on-word at-end onward next-token first-token element give refuse misplaced _>>=_ write Follows rest want-of
   last-element [] h p j st f = refl
   last-element (opening ∷ ts) h p j st f = ih ts (omega arith) p false 3 (j ∷ st) f
   last-element (closing ∷ ts) h p j st f = refl
@@ -271,8 +271,8 @@ module _ (k : ℕ) (ih : Follows (λ q c. rest-of k q c) k) where
   last-element (word v ∷ ts) h p j st f = go (word-bytes p v)
     where
       go : (o : Option (List ℕ))
-          → elim (elim o as (λ x. Next) [ some a ↦ on-atom (Last p) a (j ∷ st) f | none ↦ no ]) as (λ x. Option (List ℕ)) [ on w′ st′ f′ ↦ run ts w′ st′ f′ | no ↦ none ]
-          ≡ onward {A = Tree} (elim o as (λ x. P Tree) [ some a ↦ give (atom a) | none ↦ refuse NoParse ] ts) (λ e us. run us Bracket (j ∷ st) (f ++ write e))
+          → elim (elim o as (λ x. Next) [ some a ↦ on-atom (Last p) a (j ∷ st) f | none ↦ no ]) as (λ x. Out (List Token) (List ℕ)) [ on w′ st′ f′ ↦ run ts w′ st′ f′ | no ↦ stop NoParse (word v ∷ ts) ]
+          ≡ onward {A = Tree} (elim o as (λ x. P Tree) [ some a ↦ give (atom a) | none ↦ misplaced (word v) ] ts) (λ e us. run us Bracket (j ∷ st) (f ++ write e))
       go (some a) = refl
       go none = refl
 
@@ -289,7 +289,7 @@ module _ (k : ℕ) (ih : Follows (λ q c. rest-of k q c) k) where
       ∙ sym (onward-bind next-token (λ t. element (rest p false) p t >>= λ e. next-token >>= λ c. closes c >> give e) ts (goes-on j st f))
 
   follows-token : (t : Token) (ts : List Token) → length ts ≤ k → (p : Place) (b : Bool) (j : ℕ) (st f : List ℕ) → run (t ∷ ts) (in-a-list p b) (j ∷ st) f ≡ onward (in-list rest p b t ts) (goes-on j st f)
-  unfolding in-list run on-token on-closing on-dot pop onward give refuse hold _>>_ _>>=_ write write-atom element
+  unfolding in-list run on-token on-closing on-dot pop onward give refuse misplaced _>>_ _>>=_ write write-atom element
   follows-token closing ts h p true j st f = refl
   follows-token closing ts h p false j st f = refl
   follows-token dot ts h p true j st f = follows-last ts (omega arith) p j st f
@@ -301,7 +301,7 @@ module _ (k : ℕ) (ih : Follows (λ q c. rest-of k q c) k) where
   follows-token (quoted a) ts h p b j st f = follows-atom ts p b a (j ∷ st) f ∙ then-rest ts h p (quoted a) j st f
 
 follows : (k : ℕ) → Follows (λ q c. rest-of k q c) k
-unfolding Follows rest-of run refuse next-token first-token _>>=_ onward rest
+unfolding Follows rest-of run refuse misplaced next-token first-token _>>=_ onward rest
 follows zero [] h p b j st f = list-end p b f
 follows zero (t ∷ ts) h p b j st f = absurd (omega arith)
 follows (suc k) [] h p b j st f = list-end p b f
@@ -310,8 +310,8 @@ follows (suc k) (t ∷ ts) h p b j st f = follows-token k (follows k) t ts (omeg
 -- ---- the whole text
 
 -- nothing more is wanted
-ends : (us : List Token) (e : Tree) → run us Nothing [] (write e) ≡ onward ((all-read >> give e) us) (λ t vs. some (write t))
-unfolding run on-token on-opening on-closing on-dot on-atom on-word at-end onward all-read no-more hold give refuse _>>_ _>>=_
+ends : (us : List Token) (e : Tree) → run us Nothing [] (write e) ≡ onward ((all-read >> give e) us) (λ t vs. done (write t) vs)
+unfolding run on-token on-opening on-closing on-dot on-atom on-word at-end onward all-read no-more hold give refuse misplaced _>>_ _>>=_
 ends [] e = refl
 ends (closing ∷ us) e = refl
 ends (opening ∷ us) e = refl
@@ -320,12 +320,12 @@ ends (wrong ∷ us) e = refl
 ends (quoted a ∷ us) e = refl
 ends (word v ∷ us) e = go (word-bytes Data v)
   where
-    go : (o : Option (List ℕ)) → _≡_ {A = Option (List ℕ)} (elim (elim o as (λ x. Next) [ some a ↦ no | none ↦ no ]) as (λ x. Option (List ℕ)) [ on w′ st′ f′ ↦ run us w′ st′ f′ | no ↦ none ]) none
+    go : (o : Option (List ℕ)) → _≡_ {A = Out (List Token) (List ℕ)} (elim (elim o as (λ x. Next) [ some a ↦ no | none ↦ no ]) as (λ x. Out (List Token) (List ℕ)) [ on w′ st′ f′ ↦ run us w′ st′ f′ | no ↦ stop NoParse (word v ∷ us) ]) (stop NoParse (word v ∷ us))
     go (some a) = refl
     go none = refl
 
 first-element : (k : ℕ) (ts : List Token) → length ts ≤ suc k → run ts Whole [] [] ≡ onward ((next-token >>= λ t. element (rest-of k Operator false) Code t) ts) (λ e us. run us Nothing [] (write e))
-unfolding run on-token on-opening on-closing on-dot on-atom on-word at-end onward next-token first-token element give refuse _>>=_ write Follows want-of
+unfolding run on-token on-opening on-closing on-dot on-atom on-word at-end onward next-token first-token element give refuse misplaced _>>=_ write Follows want-of
 first-element k [] h = refl
 first-element k (opening ∷ ts) h = follows k ts (omega arith) Operator false 0 [] []
 first-element k (closing ∷ ts) h = refl
@@ -335,20 +335,20 @@ first-element k (quoted a ∷ ts) h = refl
 first-element k (word v ∷ ts) h = go (word-bytes Code v)
   where
     go : (o : Option (List ℕ))
-        → elim (elim o as (λ x. Next) [ some a ↦ on-atom Whole a [] [] | none ↦ no ]) as (λ x. Option (List ℕ)) [ on w′ st′ f′ ↦ run ts w′ st′ f′ | no ↦ none ]
-        ≡ onward {A = Tree} (elim o as (λ x. P Tree) [ some a ↦ give (atom a) | none ↦ refuse NoParse ] ts) (λ e us. run us Nothing [] (write e))
+        → elim (elim o as (λ x. Next) [ some a ↦ on-atom Whole a [] [] | none ↦ no ]) as (λ x. Out (List Token) (List ℕ)) [ on w′ st′ f′ ↦ run ts w′ st′ f′ | no ↦ stop NoParse (word v ∷ ts) ]
+        ≡ onward {A = Tree} (elim o as (λ x. P Tree) [ some a ↦ give (atom a) | none ↦ misplaced (word v) ] ts) (λ e us. run us Nothing [] (write e))
     go (some a) = refl
     go none = refl
 
 -- the machine's form is the written form of the tree that the definition reads
-pub grows : (k : ℕ) (ts : List Token) → length ts ≤ suc k → run ts Whole [] [] ≡ onward (whole k ts) (λ t us. some (write t))
+pub grows : (k : ℕ) (ts : List Token) → length ts ≤ suc k → run ts Whole [] [] ≡ onward (whole k ts) (λ t us. done (write t) us)
 unfolding whole
 grows k ts h =
     first-element k ts h
     ∙ onward-bind next-token (λ t. element (rest-of k Operator false) Code t) ts (λ e us. run us Nothing [] (write e))
     ∙ onward-same (next-token ts) (λ t us. onward (element (rest-of k Operator false) Code t us) (λ e vs. run vs Nothing [] (write e)))
-    (λ t us. onward ((element (rest-of k Operator false) Code t >>= λ e. all-read >> give e) us) (λ u vs. some (write u)))
+    (λ t us. onward ((element (rest-of k Operator false) Code t >>= λ e. all-read >> give e) us) (λ u vs. done (write u) vs))
     (λ t us i.
-    onward-same (element (rest-of k Operator false) Code t us) (λ e vs. run vs Nothing [] (write e)) (λ e vs. onward ((all-read >> give e) vs) (λ u ws. some (write u))) (λ e vs x. ends vs e)
-    ∙ sym (onward-bind (element (rest-of k Operator false) Code t) (λ e. all-read >> give e) us (λ u vs. some (write u))))
-    ∙ sym (onward-bind next-token (λ t. element (rest-of k Operator false) Code t >>= λ e. all-read >> give e) ts (λ u vs. some (write u)))
+    onward-same (element (rest-of k Operator false) Code t us) (λ e vs. run vs Nothing [] (write e)) (λ e vs. onward ((all-read >> give e) vs) (λ u ws. done (write u) ws)) (λ e vs x. ends vs e)
+    ∙ sym (onward-bind (element (rest-of k Operator false) Code t) (λ e. all-read >> give e) us (λ u vs. done (write u) vs)))
+    ∙ sym (onward-bind next-token (λ t. element (rest-of k Operator false) Code t >>= λ e. all-read >> give e) ts (λ u vs. done (write u) vs))

@@ -9,3 +9,5 @@ pub mod Grows
 pub mod MachineLaws
 pub mod TurnLaws
 pub mod ConvertLaws
+pub mod Open
+pub mod First

@@ -2,10 +2,12 @@
 use Prim.Native.Nat.{ℕ}
 use mathlib.Core.List.{List, [], _∷_, _++_}
 use mathlib.Core.Bool.{true, false}
-use mathlib.Core.Option.{Option, none, some}
+use mathlib.Core.Option.{none, some}
 use lib.Dec.{eqb}
 use Rattle.meaning.specs.Tree.{atom}
+use Rattle.refusals.specs.declared.Refusal.the-variants.{NoParse}
 use Rattle.meaning.specs.Form.{write-atom}
+use Rattle.meaning.specs.Meter.{Out, done, stop}
 use Rattle.notation.specs.declared.Place.{Place}
 use Rattle.notation.specs.declared.Place.the-variants.{Operator, Code, Data}
 use Rattle.notation.specs.Words.{word-bytes}
@@ -101,16 +103,16 @@ on-token (quoted b) w st f = on-atom w b st f
 on-token wrong w st f = no
 
 -- the text's end, where nothing is wanted
-unfoldable pub at-end : Want → List ℕ → Option (List ℕ)
-at-end Nothing f = some f
-at-end Whole f = none
-at-end (First p) f = none
-at-end (More p) f = none
-at-end (Last p) f = none
-at-end Bracket f = none
+unfoldable pub at-end : Want → List ℕ → Out (List Token) (List ℕ)
+at-end Nothing f = done f []
+at-end Whole f = stop NoParse []
+at-end (First p) f = stop NoParse []
+at-end (More p) f = stop NoParse []
+at-end (Last p) f = stop NoParse []
+at-end Bracket f = stop NoParse []
 
--- all tokens, and the form at their end
-unfoldable pub run : List Token → Want → List ℕ → List ℕ → Option (List ℕ)
+-- all tokens, and the form at their end; or the token that may not stand there, and those after it
+unfoldable pub run : List Token → Want → List ℕ → List ℕ → Out (List Token) (List ℕ)
 unfolding on-token at-end
 run [] w st f = at-end w f
-run (t ∷ ts) w st f = elim (on-token t w st f) [ on w′ st′ f′ ↦ run ts w′ st′ f′ | no ↦ none ]
+run (t ∷ ts) w st f = elim (on-token t w st f) [ on w′ st′ f′ ↦ run ts w′ st′ f′ | no ↦ stop NoParse (t ∷ ts) ]

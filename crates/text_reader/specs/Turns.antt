@@ -3,14 +3,15 @@ use Prim.Native.Nat.{ℕ, zero, suc, _+_, _≤_, _<_}
 use mathlib.Core.Path.{_≡_}
 use mathlib.Core.List.{List, [], _∷_, _++_}
 use mathlib.Core.Bool.{Bool, true, false}
-use mathlib.Core.Option.{Option, none, some}
-use lib.ListN.{length, drop, getD}
+use lib.ListN.{length, getD}
 use Rattle.meaning.specs.Limits.{form-limit}
+use Rattle.refusals.specs.declared.Refusal.the-variants.{NoParse as not-parsed}
+use Rattle.meaning.specs.Meter.{Out, done, stop}
 use Rattle.meaning.specs.Form.{write-atom}
 use Rattle.notation.specs.declared.Place.{Place}
 use Rattle.notation.specs.declared.Place.the-variants.{Operator, Code, Data}
-use Rattle.notation.specs.Texts.{text-limit, head-in}
-use Rattle.notation.specs.Grammar.{tokens}
+use Rattle.notation.specs.Texts.{head-in}
+use Rattle.notation.specs.Grammar.{Token}
 use Rattle.text_reader.specs.declared.emit.Grown.{Grown}
 use Rattle.text_reader.specs.declared.machine.Want.{Want}
 use Rattle.text_reader.specs.declared.machine.Want.the-variants.{Whole, First, More, Last, Bracket, Nothing}
@@ -24,6 +25,7 @@ use Rattle.text_reader.specs.declared.machine.Opening.the-variants.{List
 use Rattle.text_reader.specs.declared.machine.Wanted.{Wanted}
 use Rattle.text_reader.specs.declared.machine.Wanted.the-variants.{Atom, No as no-atom}
 use Rattle.text_reader.specs.Forms.{Emitted}
+use Rattle.text_reader.specs.Tokens.{signs-at, OneToken}
 use Rattle.text_reader.specs.Machine.{Next, on, no, back, pop, on-atom, on-word, run}
 
 -- ---- what a bracket opens, and what an atom is followed by
@@ -153,8 +155,8 @@ turn-of (On q) = Goes q
 turn-of NoParse = Fails
 
 -- what all tokens from r on come to, with e in the form
-abbrev pub from-here : List ℕ → List ℕ → Reading → List ℕ → Option (List ℕ)
-from-here text fr r e = run (tokens (drop (r .at) text)) (r .want) (stack-in fr (r .depth)) e
+abbrev pub from-here : List ℕ → List ℕ → Reading → List ℕ → Out (List Token) (List ℕ)
+from-here text fr r e = run (signs-at text (r .at)) (r .want) (stack-in fr (r .depth)) e
 
 -- the frames have a place for every list that can still be opened, and the form room for a form
 pub record Fair (text fr f : List ℕ) (r : Reading) : Type 0 where
@@ -165,20 +167,22 @@ pub record Fair (text fr f : List ℕ) (r : Reading) : Type 0 where
   pub within : r .grown .len ≤ form-limit
 
 -- o is what is come to from q on
-pub data Comes (o : Option (List ℕ)) (text fr f : List ℕ) (q : Reading) : Type 0 where
+pub data Comes (o : Out (List Token) (List ℕ)) (text fr f : List ℕ) (q : Reading) : Type 0 where
   comes : (e : List ℕ) → Emitted e f (q .grown) → o ≡ from-here text fr q e → Comes o text fr f q
 
 pub record GoesOn (text fr fr′ f f′ : List ℕ) (r q : Reading) : Type 0 where
   pub fair : Fair text fr′ f′ q
   pub later : r .at < q .at
+  pub one : OneToken text (r .at) (q .at)
   pub so : (e : List ℕ) → Emitted e f (r .grown) → Comes (from-here text fr r e) text fr′ f′ q
 
 -- the text ends well
 pub record EndsWell (text fr f f′ : List ℕ) (r : Reading) (g : Grown) : Type 0 where
-  pub so : (e : List ℕ) → Emitted e f (r .grown) → (from-here text fr r e ≡ some e) × Emitted e f′ g
+  pub so : (e : List ℕ) → Emitted e f (r .grown) → (from-here text fr r e ≡ done e []) × Emitted e f′ g
 
+-- the next token, or the end, may not stand there
 pub record NoText (text fr : List ℕ) (r : Reading) : Type 0 where
-  pub so : (e : List ℕ) → from-here text fr r e ≡ none
+  pub so : (e : List ℕ) → from-here text fr r e ≡ stop not-parsed (signs-at text (r .at))
 
 unfoldable pub TurnOk : List ℕ → List ℕ → List ℕ → List ℕ → List ℕ → Reading → Turn → Type 0
 TurnOk text fr fr′ f f′ r (Goes q) = GoesOn text fr fr′ f f′ r q

@@ -4,18 +4,32 @@ use crate::machine::Reading;
 use crate::machine::Turn;
 use crate::machine::Want;
 use crate::machine::take_token;
+use crate::scan::next_place;
 use refusals::Refusal;
 ghost use mathlib.Core.Path.{_≡_};
 ghost use Prim.Native.Nat.{_≤_};
 ghost use lib.ListN.{length};
 ghost use Rattle.meaning.specs.Limits.{room-least, form-limit};
 ghost use Rattle.notation.specs.Texts.{text-limit};
-ghost use Rattle.text_reader.specs.Converts.{begun, finished, ConvertedOk};
+ghost use Rattle.text_reader.specs.Converts.{begun, finished, EndingOk, ConvertedOk, FaultOk};
 
 // How many bytes the form has, or a refusal.
 pub enum Converted {
     Form(usize),
     Refused(Refusal),
+}
+
+// Where a text stops that does not parse; or that it parses, or is too long to be looked at.
+pub enum Fault {
+    At(usize),
+    Nowhere,
+    Long,
+}
+
+// How the machine ends: nothing more is wanted, with a form; or the next token from a place on may not stand there.
+pub(crate) enum Ending {
+    Whole(Grown),
+    Stops(usize),
 }
 
 const TEXT: usize = 32768;
@@ -46,9 +60,9 @@ fn finish(g: Grown) -> Converted
 }
 
 // Token by token.
-fn convert(text: &[u8], frames: &mut [u8], room: &mut [u8], form: &mut [u8]) -> Converted
+fn convert(text: &[u8], frames: &mut [u8], room: &mut [u8], form: &mut [u8]) -> Ending
     requires { ⌜ (length (now text) ≤ text-limit) × (text-limit ≤ length (now frames)) × (room-least ≤ length (now room)) × (form-limit ≤ length (now form)) ⌝ }
-    ensures { λ r. ⌜ ConvertedOk (now (text .entry)) (now (form .exit)) r ⌝ }
+    ensures { λ r. ⌜ EndingOk (now (text .entry)) (now (form .exit)) r ⌝ }
 {
     let mut r = start();
     while r.at <= text.len() {
@@ -57,14 +71,14 @@ fn convert(text: &[u8], frames: &mut [u8], room: &mut [u8], form: &mut [u8]) -> 
                 r = q;
             }
             Turn::Done(g) => {
-                return finish(g);
+                return Ending::Whole(g);
             }
             Turn::Fails => {
-                return Converted::Refused(Refusal::NoParse);
+                return Ending::Stops(r.at);
             }
         }
     }
-    Converted::Refused(Refusal::NoParse)
+    Ending::Stops(r.at)
 }
 
 // The serialised form of the text's tree, at the front of form, which has 8,192 bytes at least. Words are spelled out in the room, which
@@ -77,5 +91,24 @@ pub fn form_of_text(text: &[u8], room: &mut [u8], form: &mut [u8]) -> Converted
         return Converted::Refused(Refusal::TextLong);
     }
     let mut frames = [0u8; 32768];
-    convert(text, &mut frames, room, form)
+    match convert(text, &mut frames, room, form) {
+        Ending::Whole(g) => finish(g),
+        Ending::Stops(_) => Converted::Refused(Refusal::NoParse),
+    }
+}
+
+// Where the text stops: the same machine, and its form is dropped.
+pub fn fault_of_text(text: &[u8], room: &mut [u8]) -> Fault
+    requires { ⌜ room-least ≤ length (now room) ⌝ }
+    ensures { λ r. ⌜ FaultOk (now (text .entry)) r ⌝ }
+{
+    if TEXT < text.len() {
+        return Fault::Long;
+    }
+    let mut frames = [0u8; 32768];
+    let mut form = [0u8; 8192];
+    match convert(text, &mut frames, room, &mut form) {
+        Ending::Whole(_) => Fault::Nowhere,
+        Ending::Stops(at) => Fault::At(next_place(text, at)),
+    }
 }

@@ -6,4 +6,6 @@ mod scan;
 mod words;
 
 pub use convert::Converted;
+pub use convert::Fault;
+pub use convert::fault_of_text;
 pub use convert::form_of_text;

@@ -337,7 +337,7 @@ pub(crate) fn take_token(
         Token::Dot(next) => turned(on_dot(r, next)),
         Token::Word(from, to) => turned(on_word(&text[from..to], room, form, r, to)),
         Token::Quoted(from, to) => turned(on_atom(form, r, &text[from..to], to + 1)),
-        Token::Wrong => Turn::Fails,
+        Token::Wrong(_) => Turn::Fails,
         Token::End => at_end(r),
     }
 }

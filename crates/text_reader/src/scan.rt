@@ -5,7 +5,8 @@ ghost use Prim.Native.Nat.{_≤_, _<_};
 ghost use lib.ListN.{length, getD};
 ghost use Rattle.notation.specs.Grammar.{kind-of};
 ghost use Rattle.notation.specs.declared.Kind.the-variants.{Quotes};
-ghost use Rattle.text_reader.specs.Tokens.{is-plain, is-blank, TokenOk, Skipped, WordEnds, ClosedOk, Whole};
+ghost use Rattle.notation.specs.Faults.{first-place};
+ghost use Rattle.text_reader.specs.Tokens.{is-plain, is-blank, spots-at, TokenOk, Skipped, WordEnds, ClosedOk, Whole};
 use notation::Kind;
 
 // The next token: where it stands, and where what follows it begins.
@@ -16,12 +17,13 @@ pub(crate) enum Token {
     Dot(usize),
     Word(usize, usize),
     Quoted(usize, usize),
-    Wrong,
+    Wrong(usize),
 }
 
-// Where a quote is closed, or that it is not.
+// Where a quote is closed; or where a byte stands that may not stand in it; or that it is never closed.
 pub(crate) enum Closed {
     At(usize),
+    Bad(usize),
     Never,
 }
 
@@ -120,10 +122,10 @@ fn quote_end(text: &[u8], at: usize) -> Closed
             return Closed::At(i);
         }
         if c < 0x20 {
-            return Closed::Never;
+            return Closed::Bad(i);
         }
         if 0x7e < c {
-            return Closed::Never;
+            return Closed::Bad(i);
         }
         i += 1;
     }
@@ -150,7 +152,8 @@ fn quoted_from(text: &[u8], at: usize) -> Token
 {
     match quote_end(text, at + 1) {
         Closed::At(end) => Token::Quoted(at + 1, end),
-        Closed::Never => Token::Wrong,
+        Closed::Bad(i) => Token::Wrong(i),
+        Closed::Never => Token::Wrong(at),
     }
 }
 
@@ -164,7 +167,7 @@ fn token_here(text: &[u8], at: usize) -> Token
         Kind::Closes => Token::Close(at + 1),
         Kind::Quotes => quoted_from(text, at),
         Kind::Plain => word_from(text, at, word_end(text, at + 1)),
-        Kind::Blank => Token::Wrong,
+        Kind::Blank => Token::Wrong(at),
     }
 }
 
@@ -178,5 +181,21 @@ pub(crate) fn next_token(text: &[u8], at: usize) -> Token
         token_here(text, i)
     } else {
         Token::End
+    }
+}
+
+// Where the next token from at on begins, or the text's end.
+pub(crate) fn next_place(text: &[u8], at: usize) -> usize
+    requires { ⌜ at ≤ length (now text) ⌝ }
+    ensures { λ r. ⌜ r ≡ first-place (spots-at (now (text .entry)) at) (length (now (text .entry))) ⌝ }
+{
+    match next_token(text, at) {
+        Token::Open(next) => next - 1,
+        Token::Close(next) => next - 1,
+        Token::Dot(next) => next - 1,
+        Token::Word(from, _) => from,
+        Token::Quoted(from, _) => from - 1,
+        Token::Wrong(i) => i,
+        Token::End => text.len(),
     }
 }

@@ -2,6 +2,7 @@ pub mod Touching
 pub mod Telling
 pub mod Bytes
 pub mod Values
+pub mod Faults
 pub mod OnlyOne
 pub mod RoundTrip
 pub mod Order

@@ -11,8 +11,11 @@ use refusals::Refusal;
 use store::Made;
 use store::ROOM;
 use text_reader::Converted;
+use text_reader::Fault;
+use text_reader::fault_of_text;
 use text_reader::form_of_text;
 use text_writer::deliver_text;
+ghost use mathlib.Core.Path.{_≡_};
 ghost use Prim.Native.Nat.{_≤_};
 ghost use mathlib.Core.List.{[], _∷_};
 ghost use lib.ListN.{length, take, drop};
@@ -28,7 +31,15 @@ ghost use Rattle.optimiser.specs.Optimised.{says as run-says};
 ghost use Rattle.optimiser.specs.Worked.{WorkedOk};
 ghost use Rattle.evaluation.specs.Bytes.{worked as evaluated, says as value-says};
 ghost use Rattle.texts.specs.Outcomes.{deliver-text, read-text-outcome, write-text-outcome, delivered-run, optimise-text-outcome, delivered-value, evaluate-text-outcome};
+ghost use Rattle.texts.specs.Faults.{fault-outcome, fault-says, answer-of};
 ghost use Rattle.texts.specs.Converting.{forms-most, FirstOk, BothOk};
+
+// Where a text stops that does not parse, as a count of the bytes before it; or that it parses; or a refusal.
+pub enum FaultAnswer {
+    At(usize),
+    NoFault,
+    Refused(Refusal),
+}
 
 // How many bytes the first form takes, and both; or a refusal.
 pub(crate) enum Forms {
@@ -53,6 +64,31 @@ pub fn read_text(text: &[u8], room: &mut [u8], out: &mut [u8]) -> WriteAnswer
         }
         Converted::Form(n) => form::write(&form[..n], room, out),
     }
+}
+
+// ---- where a text stops
+
+// What is answered for a place.
+fn answer_of(f: Fault) -> FaultAnswer
+    ensures { λ r. ⌜ r ≡ answer-of f ⌝ }
+{
+    match f {
+        Fault::At(at) => FaultAnswer::At(at),
+        Fault::Nowhere => FaultAnswer::NoFault,
+        Fault::Long => FaultAnswer::Refused(Refusal::TextLong),
+    }
+}
+
+// The place in the text that refusal 15 is about. The room is all zero after, but for refusal 1.
+pub fn text_fault(text: &[u8], room: &mut [u8]) -> FaultAnswer
+    ensures { λ r. ⌜ Settles fault-says (fault-outcome (now (text .entry)) (length (now (room .entry)))) (now (room .entry)) (now (room .exit)) [] [] r ⌝ }
+{
+    if room.len() < ROOM {
+        return FaultAnswer::Refused(Refusal::RoomSmall);
+    }
+    let f = fault_of_text(text, room);
+    store::zero_room(room);
+    answer_of(f)
 }
 
 // ---- serialised form in, text out

@@ -26,6 +26,8 @@ answer-spec =
     (λ c κs. search needs)  -- print-optimised-requires-2
     (λ c. search needs)  -- enum-told-9
     (λ c κs. search needs)  -- print-evaluated-requires-2
+    (λ c. search needs)  -- enum-told-10
+    (λ c κs. search needs)  -- print-fault-requires
     (λ c. search needs)  -- same-length
     (λ c. search needs)  -- same-length-2
     (λ c. search needs)  -- same-length-3
@@ -61,4 +63,7 @@ answer-spec =
     (λ c. search needs)  -- same-length-25
     (λ c. search needs)  -- same-length-26
     (λ c. search needs)  -- same-length-27
-    (λ c. search replies.text-evaluated))  -- returns-9
+    (λ c. search replies.text-evaluated)  -- returns-9
+    (λ c. search needs)  -- same-length-28
+    (λ c. search needs)  -- same-length-29
+    (λ c. search replies.text-faulted))  -- returns-10

@@ -26,7 +26,6 @@ convert-spec =
     (λ c. search laws.going-less)  -- loop-less
     (λ c. (search laws.going-on, (search needs, (search needs, search needs))))  -- loop-again
     (λ c. search needs)  -- enum-known-g
-    (λ c κs. search needs)  -- finish-requires
     (λ c. search needs)  -- same-length
     (λ c. search needs)  -- same-length-2
     (λ c. search needs)  -- same-length-3

@@ -12,6 +12,8 @@ quoted-from-spec =
     (λ c κs. search needs)  -- quote-end-requires
     (λ c. search needs)  -- enum-known-end
     (λ c. search needs)  -- add-t7
+    (λ c. search needs)  -- enum-known-i
     (λ c. search needs)  -- enum-told
     (λ c. search laws.here-quoted)  -- returns
-    (λ c. search laws.here-broken))  -- returns-2
+    (λ c. search laws.here-bad)  -- returns-2
+    (λ c. search laws.here-open))  -- returns-3
