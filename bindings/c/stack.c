@@ -11,7 +11,7 @@
 
 /* A word of the stack that nothing has touched. */
 #define CLEAN 0xa5a5a5a5a5a5a5a5u
-enum { STACK = 8 << 20, WORDS = STACK / 8, FORMS = 6, FUNCTIONS = 9 };
+enum { STACK = 8 << 20, WORDS = STACK / 8, FORMS = 6, FUNCTIONS = 10 };
 static uint8_t form[UMLAZGRIN_FORM], text[UMLAZGRIN_TEXT + 2], room[UMLAZGRIN_ROOM], out[UMLAZGRIN_OUTPUT];
 static uint64_t *stack;
 static size_t length, text_length;
@@ -72,6 +72,12 @@ static void *evaluate_text(void *none) {
     return none;
 }
 
+static void *text_fault(void *none) {
+    struct umlazgrin_fault r;
+    umlazgrin_text_fault(text, text_length, room, sizeof room, &r);
+    return none;
+}
+
 /* How deep the work went into a clean stack. */
 static size_t taken(void *(*work)(void *)) {
     static size_t low = 0;
@@ -106,10 +112,10 @@ static int take(const char *line) {
 }
 
 int main(void) {
-    const char *names[FUNCTIONS] = {"optimise",   "evaluate",  "match",         "check",        "write",
-                                    "write_text", "read_text", "optimise_text", "evaluate_text"};
-    void *(*works[FUNCTIONS])(void *) = {optimise,   evaluate,  match,         check,        write_again,
-                                         write_text, read_text, optimise_text, evaluate_text};
+    const char *names[FUNCTIONS] = {"optimise",   "evaluate",  "match",         "check",         "write",
+                                    "write_text", "read_text", "optimise_text", "evaluate_text", "text_fault"};
+    void *(*works[FUNCTIONS])(void *) = {optimise,   evaluate,  match,         check,         write_again,
+                                         write_text, read_text, optimise_text, evaluate_text, text_fault};
     size_t most[FUNCTIONS] = {0}, at[FUNCTIONS] = {0}, number = 0;
     static char line[UMLAZGRIN_TEXT + 64];
     stack = mmap(NULL, STACK, PROT_READ | PROT_WRITE, MAP_PRIVATE | MAP_ANONYMOUS, -1, 0);

@@ -7,6 +7,7 @@
 static struct umlazgrin_written written;
 static struct umlazgrin_optimised optimised;
 static struct umlazgrin_evaluated evaluated;
+static struct umlazgrin_fault fault;
 
 /* Lent memory and reports that a function cannot take for its own. */
 static void start(void) {
@@ -14,11 +15,13 @@ static void start(void) {
     written = (struct umlazgrin_written){7, 7};
     optimised = (struct umlazgrin_optimised){7, 7, 7, 7};
     evaluated = (struct umlazgrin_evaluated){7, 7, 7};
+    fault = (struct umlazgrin_fault){7, 7};
 }
 
 static int reports_kept(void) {
     return written.length == 7 && written.units == 7 && optimised.length == 7 && optimised.passes == 7 && optimised.units == 7 &&
-           optimised.mark == 7 && evaluated.length == 7 && evaluated.steps == 7 && evaluated.units == 7;
+           optimised.mark == 7 && evaluated.length == 7 && evaluated.steps == 7 && evaluated.units == 7 && fault.found == 7 &&
+           fault.place == 7;
 }
 
 /* As every refusal but 1 leaves them. */
@@ -51,6 +54,19 @@ static uint8_t evaluate_text(const uint8_t *text, size_t length, const char *env
     return umlazgrin_evaluate_text(texts, length + strlen(environment), length, room, UMLAZGRIN_ROOM, out, most, &evaluated);
 }
 
+static uint8_t text_fault(const uint8_t *text, size_t length) {
+    start();
+    return umlazgrin_text_fault(text, length, room, UMLAZGRIN_ROOM, &fault);
+}
+
+/* What text_fault answers, with the room clean and no output touched. */
+static int answers_fault(const uint8_t *text, size_t length, size_t found, size_t place) {
+    return text_fault(text, length) == UMLAZGRIN_ANSWERED && fault.found == found && fault.place == place &&
+           all(out, sizeof out, 0x5a) && cleared(UMLAZGRIN_ROOM);
+}
+static int stops(const uint8_t *text, size_t length, size_t place) { return answers_fault(text, length, 1, place); }
+static int parses(const uint8_t *text, size_t length) { return answers_fault(text, length, 0, 0); }
+
 static void answers(void) {
     const uint8_t form[] = {0xff, 0x05, 0xff, 0x82, 0x61, 0x62, 0xff, 0x81, 0xab, 0xff, 0x81, 0xff, 0x80};
     expect(read_text(TEXT("(f\"ab\" . (0xAB -1))"), sizeof out) == UMLAZGRIN_ANSWERED);
@@ -65,12 +81,16 @@ static void answers(void) {
     expect(evaluated.length == 10 && evaluated.steps == 3 && evaluated.units == 65 && said("(f . 0x06)"));
 }
 
-/* Every function that takes a text refuses this one; as a program it is evaluated in the environment nil. */
+/* Every function that takes a text refuses this one; as a program it is evaluated in the environment nil. text_fault refuses it where it
+ * is too long, and finds a fault exactly where it does not parse. */
 static void refused(unsigned number, const uint8_t *text, size_t length) {
     unsigned before = failed;
     expect(read_text(text, length, sizeof out) == number && left());
     expect(optimise_text(text, length, sizeof out) == number && left());
     expect(evaluate_text(text, length, "()", sizeof out) == number && left());
+    if (number == UMLAZGRIN_TEXT_LONG) expect(text_fault(text, length) == number && left());
+    else if (number == UMLAZGRIN_NO_PARSE) expect(text_fault(text, length) == UMLAZGRIN_ANSWERED && fault.found == 1);
+    else expect(parses(text, length));
     if (failed > before) fprintf(stderr, "  a text of %zu bytes, refusal %u\n", length, number);
 }
 
@@ -103,6 +123,80 @@ static void texts_refused(void) {
     expect(read_text(TEXT(atom), sizeof out) == UMLAZGRIN_ANSWERED && written.length == 66 && written.units == 68);
     spaces[0] = '1', spaces[UMLAZGRIN_TEXT] = 0;
     expect(read_text(TEXT(spaces), sizeof out) == UMLAZGRIN_ANSWERED && wrote("\1", 1));
+}
+
+/* At the start, in the middle, and at the end, where more is wanted. */
+static void faults(void) {
+    expect(stops(TEXT(")"), 0));
+    expect(stops(TEXT("f"), 0));
+    expect(stops(TEXT("0x5"), 0));
+    expect(stops(TEXT("+5"), 0));
+    expect(stops(TEXT(". 5"), 0));
+    expect(stops(TEXT("(. 5)"), 1));
+    expect(stops(TEXT("(1.2)"), 1));
+    expect(stops(TEXT("5 6"), 2));
+    expect(stops(TEXT("()()"), 2));
+    expect(stops(TEXT("(q f)"), 3));
+    expect(stops(TEXT("(c . (f 1))"), 6));
+    expect(stops(TEXT("(5 . . 6)"), 5));
+    expect(stops(TEXT("(5 .)"), 4));
+    expect(stops(TEXT("(5 . 6 7)"), 7));
+    expect(stops(TEXT("(f 1))"), 5));
+    expect(stops(TEXT("\t\r "), 3));
+    expect(stops(TEXT("("), 1));
+    expect(stops(TEXT("(f 1"), 4));
+    expect(stops(TEXT("(5 ."), 4));
+    expect(stops(TEXT("(5 . "), 5));
+    expect(stops(NULL, 0, 0));
+}
+
+/* Inside quotes a byte that is not 20 to 7e, wherever they stand; else a quote that is never closed. No zero byte ends a text. */
+static void faults_in_quotes(void) {
+    expect(stops(TEXT("\"a\tb\""), 2));
+    expect(stops(TEXT("(5 \"\x7f\")"), 4));
+    expect(stops(TEXT("(\"a\" \"b\xc3\xa9\")"), 7));
+    expect(stops((const uint8_t *)"\"a\0b\"", 5, 2));
+    expect(stops((const uint8_t *)"(\0)", 3, 1));
+    expect(stops(TEXT("5 \"\t\""), 3));
+    expect(stops(TEXT("\"a\t"), 2));
+    expect(stops(TEXT("\"ab"), 0));
+    expect(stops(TEXT("(5 \"ab)"), 3));
+    expect(stops(TEXT("(5 \"ab\"\")"), 7));
+    expect(parses(TEXT("(f\"ab\" . (0xAB -1))")));
+    expect(parses(TEXT("\" ~\"")));
+}
+
+/* The longest texts, and one byte more. */
+static void faults_far_in(void) {
+    static char text[UMLAZGRIN_TEXT + 2];
+    memset(text, ' ', UMLAZGRIN_TEXT);
+    expect(stops(TEXT(text), UMLAZGRIN_TEXT));
+    text[UMLAZGRIN_TEXT - 1] = 'f';
+    expect(stops(TEXT(text), UMLAZGRIN_TEXT - 1));
+    text[UMLAZGRIN_TEXT - 1] = '5';
+    expect(parses(TEXT(text)));
+    text[UMLAZGRIN_TEXT] = ' ';
+    expect(text_fault(TEXT(text)) == UMLAZGRIN_TEXT_LONG && left());
+    memset(text, '(', UMLAZGRIN_TEXT + 1);
+    expect(text_fault(TEXT(text)) == UMLAZGRIN_TEXT_LONG && left());
+    expect(stops(TEXT(text + 1), UMLAZGRIN_TEXT));
+    memset(text, '7', UMLAZGRIN_TEXT);
+    expect(parses((const uint8_t *)text, UMLAZGRIN_TEXT));
+    text[UMLAZGRIN_TEXT - 1] = 'a';
+    expect(stops((const uint8_t *)text, UMLAZGRIN_TEXT, 0));
+}
+
+/* What the room holds before does not matter, nor what is behind its least length. */
+static void fault_rooms(void) {
+    for (unsigned noise = 0; noise < 256; noise += 51) {
+        start();
+        memset(room, (int)noise, UMLAZGRIN_ROOM);
+        expect(umlazgrin_text_fault(TEXT("(q 123456789012345678901234567890 f)"), room, UMLAZGRIN_ROOM, &fault) == UMLAZGRIN_ANSWERED);
+        expect(fault.found == 1 && fault.place == 34 && cleared(UMLAZGRIN_ROOM));
+    }
+    start();
+    expect(umlazgrin_text_fault(TEXT("(f 1)"), room, UMLAZGRIN_ROOM + 3, &fault) == UMLAZGRIN_ANSWERED);
+    expect(fault.found == 0 && fault.place == 0 && cleared(UMLAZGRIN_ROOM + 3));
 }
 
 static void work_refused(void) {
@@ -160,6 +254,8 @@ static void rooms(void) {
     expect(umlazgrin_write_text(nil, 1, room, UMLAZGRIN_ROOM - 1, out, sizeof out, &written) == UMLAZGRIN_ROOM_SMALL);
     expect(umlazgrin_optimise_text(TEXT("1"), room, UMLAZGRIN_ROOM - 1, out, sizeof out, &optimised) == UMLAZGRIN_ROOM_SMALL);
     expect(umlazgrin_evaluate_text(TEXT("1 2"), 1, NULL, 0, out, sizeof out, &evaluated) == UMLAZGRIN_ROOM_SMALL);
+    expect(umlazgrin_text_fault(TEXT("x"), room, UMLAZGRIN_ROOM - 1, &fault) == UMLAZGRIN_ROOM_SMALL);
+    expect(umlazgrin_text_fault(TEXT(list(" ", UMLAZGRIN_TEXT - 1)), NULL, 0, &fault) == UMLAZGRIN_ROOM_SMALL);
     expect(untouched() && all(out, sizeof out, 0x5a) && reports_kept());
     expect(umlazgrin_optimise_text(TEXT("(f 1)"), room, UMLAZGRIN_ROOM + 3, out, sizeof out, &optimised) == UMLAZGRIN_ANSWERED);
     expect(cleared(UMLAZGRIN_ROOM + 3));
@@ -192,6 +288,10 @@ static void shared(void) {
 int main(void) {
     answers();
     texts_refused();
+    faults();
+    faults_in_quotes();
+    faults_far_in();
+    fault_rooms();
     work_refused();
     environments();
     forms_refused();

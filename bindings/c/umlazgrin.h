@@ -2,14 +2,16 @@
  * serialised form and of the readable notation, on bytes that the caller lends. Link libumlazgrin.a; of C's library it needs memcpy
  * and memset only.
  *
- * Each function returns 0 for an answer, or the number of a refusal (1 to 16; the matcher also 100 and 101). What it leaves behind
- * is proved of it, for all inputs:
- *   - an answer fills in *report and writes the first bytes of out, as many as the report says, and none after them;
+ * Each of the ten functions returns 0 for an answer, or the number of a refusal (1 to 16; the matcher also 100 and 101). What it leaves
+ * behind is proved of it, for all inputs:
+ *   - an answer fills in *report and writes the first bytes of out, as many as the report says, and none after them (umlazgrin_check and
+ *     umlazgrin_text_fault have no out: they write the report and the room alone);
  *   - any other return leaves out and *report as they came in;
  *   - room is all zero after every return but refusal 1, which leaves it as it came in. What it holds before does not matter.
  *
  * Checked here: every length. A room that is short is refusal 1, a result that does not fit refusal 14, a form that is too long,
- * cut off or damaged 2 to 6, a text that is too long 16, one that does not parse 15. Any bytes may be passed as a form or as a text.
+ * cut off or damaged 2 to 6, a text that is too long 16, one that does not parse 15 (umlazgrin_text_fault answers where). Any bytes may be
+ * passed as a form or as a text.
  *
  * The caller's duty, which nothing checks:
  *   - a pointer has as many bytes behind it as its length says, readable (form, forms, text, texts) or readable and writable (room, out);
@@ -70,6 +72,8 @@ struct umlazgrin_matched { size_t names, name_1, node_1, name_2, node_2; };
 /* The units that reading the form costs. */
 struct umlazgrin_checked { size_t units; };
 struct umlazgrin_written { size_t length, units; };
+/* found is 1 where the text does not parse, and place the number of its bytes before the fault; both are 0 where it parses. */
+struct umlazgrin_fault { size_t found, place; };
 
 /* Optimises the form's tree and writes the finished tree to out. */
 uint8_t umlazgrin_optimise(const uint8_t *form, size_t form_length, uint8_t *room, size_t room_length,
@@ -91,9 +95,9 @@ uint8_t umlazgrin_check(const uint8_t *form, size_t form_length, uint8_t *room, 
 uint8_t umlazgrin_write(const uint8_t *form, size_t form_length, uint8_t *room, size_t room_length,
                         uint8_t *out, size_t out_length, struct umlazgrin_written *report);
 
-/* The four functions of the readable notation. A text is bytes and a length, in and out: no zero byte ends it. Refusals of a text come
+/* The five functions of the readable notation. A text is bytes and a length, in and out: no zero byte ends it. Refusals of a text come
  * in this order: 1, 16, 15, 2, then 5 and 7 as in the form of its tree; then those of the work, and 14 last. Of two texts the first is
- * read whole before the second. */
+ * read whole before the second. umlazgrin_text_fault refuses with 1 and 16 alone. */
 
 /* Reads the text and writes the serialised form of its tree to out: at most UMLAZGRIN_FORM bytes. */
 uint8_t umlazgrin_read_text(const uint8_t *text, size_t text_length, uint8_t *room, size_t room_length,
@@ -111,6 +115,12 @@ uint8_t umlazgrin_optimise_text(const uint8_t *text, size_t text_length, uint8_t
  * value to out as text, however long its form would be. */
 uint8_t umlazgrin_evaluate_text(const uint8_t *texts, size_t texts_length, size_t first, uint8_t *room, size_t room_length,
                                 uint8_t *out, size_t out_length, struct umlazgrin_evaluated *report);
+
+/* Says where the text stops being one: at the first byte of the first bracket, dot, word or quoted text that may not stand where it
+ * stands; at its end where more is wanted, as a bracket that closes; inside quotes at a byte that is not 20 to 7e; at a quote that is
+ * never closed. A text that parses has no fault, whatever 2, 5 and 7 would say of its tree. */
+uint8_t umlazgrin_text_fault(const uint8_t *text, size_t text_length, uint8_t *room, size_t room_length,
+                             struct umlazgrin_fault *report);
 
 #ifdef __cplusplus
 }

@@ -176,3 +176,14 @@ pub fn evaluate_text(texts: &[u8], first: usize, room: &mut [u8], out: &mut [u8]
     let [length, steps, units] = report;
     Ok(Evaluated { length, steps, units })
 }
+
+/// Where the text stops being one, as a count of the bytes before that place; none where it parses.
+pub fn text_fault(text: &[u8], room: &mut [u8]) -> Result<Option<usize>, Refusal> {
+    let mut report = [0; 2];
+    let number = unsafe {
+        raw::umlazgrin_text_fault(text.as_ptr(), text.len(), room.as_mut_ptr(), room.len(), &mut report)
+    };
+    refused(number)?;
+    let [found, place] = report;
+    Ok((found == 1).then_some(place))
+}

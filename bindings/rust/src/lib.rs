@@ -12,6 +12,7 @@
 //! assert_eq!(u.optimise(&[0x81, 0x05]).unwrap_err().number(), 4);
 //! assert_eq!(u.optimise_text("(f (c 3 2))")?.text, "0x03");
 //! assert_eq!(u.optimise_text("(f (c 3 2)").unwrap_err().number(), 15);
+//! assert_eq!(u.text_fault("(f (c 3 2)")?, Some(10)); // at its end: a bracket is wanted
 //! # Ok::<(), umlazgrin::Refusal>(())
 //! ```
 
@@ -164,6 +165,13 @@ impl Umlazgrin {
         let texts = [program, environment.as_ref()].concat();
         let r = lent::evaluate_text(&texts, program.len(), &mut self.room, &mut self.out)?;
         Ok(TextValue { text: self.written(r.length), steps: r.steps, units: r.units })
+    }
+
+    /// Where the text stops being one, as a count of the bytes before that place: at the first part that may not stand where it stands,
+    /// or at the text's end where more is wanted. None where it parses, so exactly where [`Umlazgrin::read_text`] does not answer
+    /// [`Refusal::NoParse`]; the one refusal is [`Refusal::TextLong`].
+    pub fn text_fault(&mut self, text: impl AsRef<[u8]>) -> Result<Option<usize>, Refusal> {
+        lent::text_fault(text.as_ref(), &mut self.room)
     }
 
     /// The writer has brackets, spaces, dots, names and hex digits only.

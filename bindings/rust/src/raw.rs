@@ -37,4 +37,7 @@ extern "C" {
         texts: *const u8, texts_length: usize, first: usize, room: *mut u8, room_length: usize, out: *mut u8,
         out_length: usize, report: *mut [usize; 3],
     ) -> u8;
+    pub fn umlazgrin_text_fault(
+        text: *const u8, text_length: usize, room: *mut u8, room_length: usize, report: *mut [usize; 2],
+    ) -> u8;
 }

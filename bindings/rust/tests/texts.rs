@@ -27,12 +27,17 @@ fn answers() {
     assert_eq!(u.evaluate_text("(c 2 3)", "(5 . 6)"), Ok(value));
 }
 
-/// Each function that takes a text refuses this one; as a program it is evaluated in the environment nil.
+/// Each function that takes a text refuses this one; as a program it is evaluated in the environment nil. `text_fault` refuses it where it is
+/// too long, and finds a fault exactly where it does not parse.
 fn refused(u: &mut Umlazgrin, text: &str, refusal: Refusal) {
     let start = &text[..text.len().min(20)];
     assert_eq!(u.read_text(text), Err(refusal), "{start}");
     assert_eq!(u.optimise_text(text), Err(refusal), "{start}");
     assert_eq!(u.evaluate_text(text, "()"), Err(refusal), "{start}");
+    match refusal {
+        Refusal::TextLong => assert_eq!(u.text_fault(text), Err(refusal), "{start}"),
+        _ => assert_eq!(u.text_fault(text).unwrap().is_some(), refusal == Refusal::NoParse, "{start}"),
+    }
 }
 
 #[test]
@@ -53,6 +58,40 @@ fn refusals_of_a_text() {
     assert_eq!(u.read_text(format!("0x{}", "ab".repeat(64))).unwrap().len(), 66);
     assert_eq!(u.read_text(format!("1{}", " ".repeat(TEXT - 1))).unwrap(), [1]);
     assert_eq!(u.read_text([0x28, 0x00, 0x29]), Err(Refusal::NoParse));
+}
+
+/// At the start, in the middle, at the end, where more is wanted, and inside quotes.
+#[test]
+fn faults() {
+    let mut u = Umlazgrin::new();
+    for (text, place) in [
+        (")", 0), ("f", 0), ("0x5", 0), ("+5", 0), (". 5", 0), ("(. 5)", 1), ("(1.2)", 1), ("5 6", 2), ("()()", 2), ("(q f)", 3),
+        ("(5 . . 6)", 5), ("(5 .)", 4), ("(c . (f 1))", 6), ("(5 . 6 7)", 7), ("(f 1))", 5), ("\t\r ", 3), ("", 0), ("(", 1),
+        ("(f 1", 4), ("(5 .", 4), ("(5 . ", 5), ("\"a\tb\"", 2), ("(5 \"\u{7f}\")", 4), ("(\"a\" \"b\u{e9}\")", 7), ("\"a\0b\"", 2),
+        ("(\0)", 1), ("5 \"\t\"", 3), ("\"a\t", 2), ("\"ab", 0), ("(5 \"ab)", 3), ("(5 \"ab\"\")", 7),
+    ] {
+        assert_eq!(u.text_fault(text), Ok(Some(place)), "{text}");
+        assert_eq!(u.read_text(text), Err(Refusal::NoParse), "{text}");
+    }
+    for text in ["(f\"ab\" . (0xAB -1))", "\" ~\"", "()", "(c . ((f 1)))", "(0x0001 (f))"] {
+        assert_eq!(u.text_fault(text), Ok(None), "{text}");
+    }
+    assert_eq!(u.text_fault([0x22, 0x80, 0x22]), Ok(Some(1)));
+    assert_eq!(Umlazgrin::with_output(0).text_fault("(f 1)"), Ok(None));
+}
+
+/// The longest texts, and one byte more.
+#[test]
+fn faults_far_in() {
+    let mut u = Umlazgrin::new();
+    let blanks = " ".repeat(TEXT - 1);
+    assert_eq!(u.text_fault(format!("{blanks} ")), Ok(Some(TEXT)));
+    assert_eq!(u.text_fault(format!("{blanks}f")), Ok(Some(TEXT - 1)));
+    assert_eq!(u.text_fault(format!("{blanks}5")), Ok(None));
+    assert_eq!(u.text_fault(format!("{blanks}5 ")), Err(Refusal::TextLong));
+    assert_eq!(u.text_fault("(".repeat(TEXT)), Ok(Some(TEXT)));
+    assert_eq!(u.text_fault("(".repeat(TEXT + 1)), Err(Refusal::TextLong));
+    assert_eq!(u.text_fault(format!("{}a", "7".repeat(TEXT - 1))), Ok(Some(0)));
 }
 
 #[test]
@@ -165,5 +204,22 @@ fn every_lent_byte() {
         assert!(work(&mut room, &mut out).is_err());
         assert_eq!(out, filled(40));
         assert!(clean(&room));
+    }
+}
+
+/// `text_fault` has no output: the room alone is written.
+#[test]
+fn every_lent_byte_of_a_fault() {
+    let long = " ".repeat(TEXT + 1);
+    for (text, wanted) in [("(f 1)", Ok(None)), ("(q f)", Ok(Some(3))), (&long[..], Err(Refusal::TextLong))] {
+        for length in [ROOM, ROOM + 5] {
+            let mut room = filled(length);
+            assert_eq!(lent::text_fault(text.as_bytes(), &mut room), wanted);
+            assert!(room.iter().all(|b| *b == 0));
+        }
+        let mut room = filled(ROOM - 1);
+        assert_eq!(lent::text_fault(text.as_bytes(), &mut room), Err(Refusal::RoomSmall));
+        assert_eq!(room, filled(ROOM - 1));
+        assert_eq!(lent::text_fault(text.as_bytes(), &mut []), Err(Refusal::RoomSmall));
     }
 }

@@ -60,7 +60,7 @@ fn finish(g: Grown) -> Converted
 }
 
 // Token by token.
-fn convert(text: &[u8], frames: &mut [u8], room: &mut [u8], form: &mut [u8]) -> Ending
+fn take_tokens(text: &[u8], frames: &mut [u8], room: &mut [u8], form: &mut [u8]) -> Ending
     requires { ⌜ (length (now text) ≤ text-limit) × (text-limit ≤ length (now frames)) × (room-least ≤ length (now room)) × (form-limit ≤ length (now form)) ⌝ }
     ensures { λ r. ⌜ EndingOk (now (text .entry)) (now (form .exit)) r ⌝ }
 {
@@ -81,6 +81,15 @@ fn convert(text: &[u8], frames: &mut [u8], room: &mut [u8], form: &mut [u8]) -> 
     Ending::Stops(r.at)
 }
 
+// The whole machine. What is wanted after each open list stands here and not with the callers, whose frames stay while a form is worked.
+fn convert(text: &[u8], room: &mut [u8], form: &mut [u8]) -> Ending
+    requires { ⌜ (length (now text) ≤ text-limit) × (room-least ≤ length (now room)) × (form-limit ≤ length (now form)) ⌝ }
+    ensures { λ r. ⌜ EndingOk (now (text .entry)) (now (form .exit)) r ⌝ }
+{
+    let mut frames = [0u8; 32768];
+    take_tokens(text, &mut frames, room, form)
+}
+
 // The serialised form of the text's tree, at the front of form, which has 8,192 bytes at least. Words are spelled out in the room, which
 // has 65,536 bytes at least.
 pub fn form_of_text(text: &[u8], room: &mut [u8], form: &mut [u8]) -> Converted
@@ -90,8 +99,7 @@ pub fn form_of_text(text: &[u8], room: &mut [u8], form: &mut [u8]) -> Converted
     if TEXT < text.len() {
         return Converted::Refused(Refusal::TextLong);
     }
-    let mut frames = [0u8; 32768];
-    match convert(text, &mut frames, room, form) {
+    match convert(text, room, form) {
         Ending::Whole(g) => finish(g),
         Ending::Stops(_) => Converted::Refused(Refusal::NoParse),
     }
@@ -105,9 +113,8 @@ pub fn fault_of_text(text: &[u8], room: &mut [u8]) -> Fault
     if TEXT < text.len() {
         return Fault::Long;
     }
-    let mut frames = [0u8; 32768];
     let mut form = [0u8; 8192];
-    match convert(text, &mut frames, room, &mut form) {
+    match convert(text, room, &mut form) {
         Ending::Whole(_) => Fault::Nowhere,
         Ending::Stops(at) => Fault::At(next_place(text, at)),
     }

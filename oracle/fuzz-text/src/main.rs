@@ -1,5 +1,6 @@
-//! libFuzzer's function: an input is a text, up to its first LF. The proved program `read_text`, a child asked by the line, must say of
-//! it what the oracle's mode `read-text` says. A difference or the child's end ends the program, and libFuzzer keeps the input.
+//! libFuzzer's function: an input is a text, up to its first LF. The proved programs `read_text` and `text_fault`, children asked by the
+//! line, must say of it what the oracle's modes `read-text` and `text-fault` say. A difference or a child's end ends the program, and
+//! libFuzzer keeps the input.
 #![no_main]
 
 use std::cell::RefCell;
@@ -15,40 +16,29 @@ thread_local! {
     static BOTH: RefCell<Option<Both>> = const { RefCell::new(None) };
 }
 
-struct Both {
-    store: Allocator,
+/// A proved program as a child, and the oracle's mode that it is held against.
+struct Asked {
+    mode: Mode,
     child: Child,
     questions: ChildStdin,
     answers: BufReader<ChildStdout>,
-    asked: u64,
-    spoil: Option<Vec<u8>>,
 }
 
-impl Both {
-    /// READ_TEXT is the child's command, which `run` sets. It gets the usual stack: this program's own is far larger.
-    /// SPOIL, hex, makes texts with these bytes differ: a trial of the fuzzer itself.
-    fn new() -> Both {
-        let command = std::env::var("READ_TEXT").expect("READ_TEXT is the command of the proved program");
-        let spoil = std::env::var("SPOIL").ok().filter(|text| !text.is_empty());
+impl Asked {
+    /// `variable` names the child's command, which `run` sets. It gets the usual stack: this program's own is far larger.
+    fn new(mode: Mode, variable: &str) -> Asked {
+        let command = std::env::var(variable).unwrap_or_else(|_| panic!("{variable} is the command of a proved program"));
         let mut child = Command::new("sh")
             .args(["-c", &format!("ulimit -s 8192 && exec {command}")])
             .stdin(Stdio::piped())
             .stdout(Stdio::piped())
             .spawn()
             .expect("the child starts");
-        Both {
-            store: oracle::store(false),
-            questions: child.stdin.take().unwrap(),
-            answers: BufReader::new(child.stdout.take().unwrap()),
-            child,
-            asked: 0,
-            spoil: spoil.map(|text| oracle::form::from_hex(text.as_bytes()).expect("SPOIL is hex, in lower case")),
-        }
+        Asked { mode, questions: child.stdin.take().unwrap(), answers: BufReader::new(child.stdout.take().unwrap()), child }
     }
 
     /// The child's line of answer.
     fn ask(&mut self, text: &[u8]) -> Result<Vec<u8>, Error> {
-        self.asked += 1;
         self.questions.write_all(&[text, b"\n"].concat())?;
         let mut line = Vec::new();
         self.answers.read_until(b'\n', &mut line)?;
@@ -60,7 +50,7 @@ impl Both {
         Ok(line)
     }
 
-    fn compare(&mut self, text: &[u8]) -> Result<(), String> {
+    fn compare(&mut self, store: &mut Allocator, text: &[u8]) -> Result<(), String> {
         let said = match self.ask(text) {
             Ok(said) => said,
             Err(error) => {
@@ -69,11 +59,40 @@ impl Both {
                 return Err(format!("the child does not answer: {error}; its status: {:?}", self.child.try_wait()));
             }
         };
-        let wanted = answer(Mode::ReadText, &mut self.store, text).line;
-        let spoiled = self.spoil.as_ref().is_some_and(|s| text.windows(s.len()).any(|w| w == s));
-        if spoiled || said != wanted.as_bytes() {
-            let why = if spoiled { "the bytes of SPOIL are in the text; " } else { "" };
-            return Err(format!("{why}the oracle says\n{wanted}\nthe child says\n{}", said.escape_ascii()));
+        let wanted = answer(self.mode, store, text).line;
+        if said != wanted.as_bytes() {
+            return Err(format!("the oracle says\n{wanted}\nthe child says\n{}", said.escape_ascii()));
+        }
+        Ok(())
+    }
+}
+
+struct Both {
+    store: Allocator,
+    programs: [Asked; 2],
+    texts: u64,
+    spoil: Option<Vec<u8>>,
+}
+
+impl Both {
+    /// SPOIL, hex, makes texts with these bytes differ: a trial of the fuzzer itself.
+    fn new() -> Both {
+        let spoil = std::env::var("SPOIL").ok().filter(|text| !text.is_empty());
+        Both {
+            store: oracle::store(false),
+            programs: [Asked::new(Mode::ReadText, "READ_TEXT"), Asked::new(Mode::TextFault, "TEXT_FAULT")],
+            texts: 0,
+            spoil: spoil.map(|text| oracle::form::from_hex(text.as_bytes()).expect("SPOIL is hex, in lower case")),
+        }
+    }
+
+    fn compare(&mut self, text: &[u8]) -> Result<(), String> {
+        self.texts += 1;
+        for program in &mut self.programs {
+            program.compare(&mut self.store, text)?;
+        }
+        if self.spoil.as_ref().is_some_and(|s| text.windows(s.len()).any(|w| w == s)) {
+            return Err("the bytes of SPOIL are in the text".to_string());
         }
         Ok(())
     }
@@ -102,7 +121,7 @@ pub unsafe extern "C" fn LLVMFuzzerTestOneInput(data: *const u8, size: usize) ->
         // The main thread has a stack of `oracle::STACK` bytes: `run` sees to it.
         let both = both.get_or_insert_with(Both::new);
         if let Err(difference) = both.compare(text) {
-            eprintln!("DIFFERENT, text {} of this child, \"{}\": {difference}", both.asked, text.escape_ascii());
+            eprintln!("DIFFERENT, text {} of these children, \"{}\": {difference}", both.texts, text.escape_ascii());
             abort();
         }
     });

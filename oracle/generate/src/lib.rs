@@ -22,9 +22,11 @@ mod small;
 mod sound;
 mod spelling;
 mod texts_border;
+mod texts_bytes;
 mod texts_damaged;
 mod texts_growing;
 mod texts_pairs;
+mod texts_small;
 mod tree;
 mod trees;
 mod wide;
@@ -58,9 +60,11 @@ pub fn print(options: &Options, sink: &mut Sink) -> bool {
         "pairs-eval" => pairs_eval::print(options, sink),
         "trees" => trees::print(options, sink),
         "texts-border" => texts_border::print(sink),
+        "texts-bytes" => texts_bytes::print(options, sink),
         "texts-damaged" => texts_damaged::print(options, sink),
         "texts-growing" => texts_growing::print(options, sink),
         "texts-pairs" => texts_pairs::print(options, sink),
+        "texts-small" => texts_small::print(options, sink),
         _ => return false,
     }
     true

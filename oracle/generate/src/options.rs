@@ -7,7 +7,8 @@ families: bytes (--max: bytes in a form, to 3)
           code, kept, damaged, large, rule-1 to rule-8, pairs-match, pairs-eval, trees (--seed, --count)
           shared (--seed, --count: random ones after the fixed ones)
           limits, repeats, wide, deep
-          texts-damaged, texts-growing, texts-pairs (--seed, --count), texts-border: texts in the readable notation
+          texts-damaged, texts-bytes, texts-growing, texts-pairs (--seed, --count), texts-border,
+          texts-small (--leaves: tokens in a text, at most): texts in the readable notation
 --names puts a name before each form
 --text prints the texts of the trees, in spellings by chance; of two, each on a line of its own";
 

@@ -8,7 +8,7 @@ use oracle::modes::{answer, Mode};
 use oracle::{store, STACK};
 
 const USAGE: &str = "Give one mode: tree, full, full --trace, full --rules, full --causes, match, eval, rule 1 to rule 8, read, \
-read-text, write-text, optimise-text, or evaluate-text.";
+read-text, write-text, optimise-text, evaluate-text, or text-fault.";
 
 fn mode(words: &[String]) -> Option<Mode> {
     let words: Vec<&str> = words.iter().map(|w| w.as_str()).collect();
@@ -25,6 +25,7 @@ fn mode(words: &[String]) -> Option<Mode> {
         ["write-text"] => Mode::WriteText,
         ["optimise-text"] => Mode::OptimiseText,
         ["evaluate-text"] => Mode::EvaluateText,
+        ["text-fault"] => Mode::TextFault,
         ["rule", number @ ("1" | "2" | "3" | "4" | "5" | "6" | "7" | "8")] => {
             Mode::Rule(number.parse().unwrap())
         }

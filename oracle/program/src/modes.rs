@@ -10,7 +10,7 @@ use clvm_rs::run::{write, GaveUp};
 
 use crate::form::{from_hex, put_hex, read};
 use crate::matcher::{matches, published_agrees, Matched};
-use crate::readable::{read_text, write_text};
+use crate::readable::{read_text, text_fault, write_text};
 use crate::runner::{evaluate, Runner};
 
 /// What a result may be written into.
@@ -33,6 +33,7 @@ pub enum Mode {
     WriteText,
     OptimiseText,
     EvaluateText,
+    TextFault,
 }
 
 pub struct Said {
@@ -111,7 +112,7 @@ fn forms(mode: Mode, line: &[u8]) -> Option<Vec<Vec<u8>>> {
             let blank = line.iter().position(|c| *c == b' ')?;
             Some(vec![from_hex(&line[..blank])?, from_hex(&line[blank + 1..])?])
         }
-        Mode::ReadText | Mode::OptimiseText => Some(vec![line.to_vec()]),
+        Mode::ReadText | Mode::OptimiseText | Mode::TextFault => Some(vec![line.to_vec()]),
         Mode::EvaluateText => {
             let end = line.iter().position(|c| *c == b'\n')?;
             Some(vec![line[..end].to_vec(), line[end + 1..].to_vec()])
@@ -126,6 +127,9 @@ fn work(
     forms: &[Vec<u8>],
     out: &mut String,
 ) -> Result<(), EvalErr> {
+    if mode == Mode::TextFault {
+        return put_fault(store, &forms[0], out);
+    }
     let first = match mode {
         Mode::ReadText | Mode::OptimiseText | Mode::EvaluateText => read_text(store, &forms[0])?,
         _ => read(store, &forms[0])?,
@@ -218,6 +222,7 @@ fn work(
             put_text(store, value, out)?;
             write!(out, " {steps} {}", store.run.units).unwrap();
         }
+        Mode::TextFault => unreachable!("it is answered above"),
     }
     Ok(())
 }
@@ -281,5 +286,19 @@ fn put_tree(store: &Allocator, tree: NodePtr, out: &mut String) -> Result<(), Ev
 /// The tree in the readable notation, or refusal 14.
 fn put_text(store: &Allocator, tree: NodePtr, out: &mut String) -> Result<(), EvalErr> {
     out.push_str(&write_text(store, tree, OUTPUT).ok_or(EvalErr::Refused(14))?);
+    Ok(())
+}
+
+/// Where a text stops; it stops somewhere exactly where the reader says 15.
+fn put_fault(store: &mut Allocator, text: &[u8], out: &mut String) -> Result<(), EvalErr> {
+    let fault = text_fault(text)?;
+    if fault.is_some() != matches!(read_text(store, text), Err(EvalErr::Refused(15))) {
+        out.push_str("broken: the reader says otherwise");
+        return Ok(());
+    }
+    match fault {
+        Some(place) => write!(out, "at {place}").unwrap(),
+        None => out.push_str("no fault"),
+    }
     Ok(())
 }

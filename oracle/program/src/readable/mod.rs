@@ -3,11 +3,13 @@
 //! Written from the request's words alone, so that it is no copy of the port's. Nothing here goes deeper on the stack as a
 //! text nests deeper: brackets may nest 32,768 deep.
 
+mod faults;
 mod number;
 mod reader;
 mod words;
 mod writer;
 
+pub use faults::text_fault;
 pub use reader::read_text;
 pub use writer::write_text;
 

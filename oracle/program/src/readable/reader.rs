@@ -12,12 +12,25 @@ const TEXT: usize = 32_768;
 
 /// Reads one whole text: its tree is written as a form, and the form is read as any other. The store charges for it.
 pub fn read_text(store: &mut Allocator, text: &[u8]) -> Result<NodePtr, EvalErr> {
+    within_limit(text)?;
+    let tree = spelled(text).ok_or(EvalErr::Refused(15))?;
+    read(store, &tree.form())
+}
+
+pub fn within_limit(text: &[u8]) -> Result<(), EvalErr> {
     if text.len() > TEXT {
         return Err(EvalErr::Refused(16));
     }
-    let read_as_written = words(text).and_then(parsed).filter(Parsed::names_are_in_place);
-    let tree = read_as_written.ok_or(EvalErr::Refused(15))?;
-    read(store, &tree.form())
+    Ok(())
+}
+
+/// Whether bytes of any length are a text.
+pub fn parses(text: &[u8]) -> bool {
+    spelled(text).is_some()
+}
+
+fn spelled(text: &[u8]) -> Option<Parsed> {
+    words(text).and_then(parsed).filter(Parsed::names_are_in_place)
 }
 
 enum Part {

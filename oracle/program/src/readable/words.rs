@@ -16,39 +16,61 @@ fn separates(c: u8) -> bool {
     matches!(c, b' ' | b'\t' | b'\r' | b'\n')
 }
 
+/// Brackets, a dot alone, words and quoted texts: where each begins and ends, and what it spells. A token that spells nothing has no word; a
+/// quote that is never closed takes all bytes to the text's end.
+pub struct Token {
+    pub start: usize,
+    pub end: usize,
+    pub word: Option<Word>,
+}
+
+/// All tokens in their order.
+pub fn tokens(text: &[u8]) -> Vec<Token> {
+    let mut tokens = Vec::new();
+    let mut start = 0;
+    while start < text.len() {
+        if separates(text[start]) {
+            start += 1;
+            continue;
+        }
+        let end = start + first_length(&text[start..]);
+        tokens.push(Token { start, end, word: word(&text[start..end]) });
+        start = end;
+    }
+    tokens
+}
+
+/// How many bytes the token has that stands in front.
+fn first_length(text: &[u8]) -> usize {
+    let stops = |c: &u8| separates(*c) || matches!(c, b'(' | b')' | b'"');
+    match text[0] {
+        b'(' | b')' => 1,
+        b'"' => text[1..].iter().position(|c| *c == b'"').map_or(text.len(), |close| close + 2),
+        _ => text.iter().position(stops).unwrap_or(text.len()),
+    }
+}
+
 /// All words in their order; nothing where a part of the text is no word.
 pub fn words(text: &[u8]) -> Option<Vec<Word>> {
-    let mut words = Vec::new();
-    let mut rest = text;
-    while let Some((&first, after)) = rest.split_first() {
-        rest = match first {
-            b'(' => {
-                words.push(Word::Open);
-                after
-            }
-            b')' => {
-                words.push(Word::Close);
-                after
-            }
-            b'"' => {
-                let end = after.iter().position(|c| *c == b'"')?;
-                words.push(Word::Atom(quoted(&after[..end])?));
-                &after[end + 1..]
-            }
-            _ if separates(first) => after,
-            _ => {
-                let stops = |c: &u8| separates(*c) || matches!(c, b'(' | b')' | b'"');
-                let end = rest.iter().position(stops).unwrap_or(rest.len());
-                words.push(bare(&rest[..end])?);
-                &rest[end..]
-            }
-        };
+    tokens(text).into_iter().map(|token| token.word).collect()
+}
+
+fn word(token: &[u8]) -> Option<Word> {
+    match token {
+        b"(" => Some(Word::Open),
+        b")" => Some(Word::Close),
+        [b'"', after @ ..] => quoted(after.strip_suffix(b"\"")?).map(Word::Atom),
+        _ => bare(token),
     }
-    Some(words)
+}
+
+/// Whether the byte may stand between quotes.
+pub fn may_be_quoted(c: u8) -> bool {
+    (0x20..=0x7e).contains(&c)
 }
 
 fn quoted(body: &[u8]) -> Option<Vec<u8>> {
-    body.iter().all(|c| (0x20..=0x7e).contains(c)).then(|| body.to_vec())
+    body.iter().all(|c| may_be_quoted(*c)).then(|| body.to_vec())
 }
 
 fn bare(word: &[u8]) -> Option<Word> {

@@ -10,7 +10,6 @@ fault-of-text-spec =
     (tie.spec
     (λ c. search laws.too-long-to-see)  -- returns
     (λ c. search needs)  -- slice-aggregate-convert
-    (λ c. search needs)  -- slice-aggregate-convert-2
     (λ c κs. search needs)  -- convert-requires
     (λ c. search needs)  -- enum-told
     (λ c. search needs)  -- enum-known-at

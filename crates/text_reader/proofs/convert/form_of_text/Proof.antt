@@ -9,7 +9,6 @@ form-of-text-spec =
     tie.close
     (tie.spec
     (λ c. search laws.too-long)  -- returns
-    (λ c. search needs)  -- slice-aggregate-convert
     (λ c κs. search needs)  -- convert-requires
     (λ c. search needs)  -- enum-known-g
     (λ c κs. search needs)  -- finish-requires
