@@ -6,7 +6,6 @@ use mathlib.Core.Option.{none, some}
 use Prim.Native.Nat.{ℕ, suc, _+_, _-_, _<_, _≤_}
 use native.Mathlib.Omega.{arith}
 use lib.ListN.{length, drop, length-append}
-use Rattle.refusals.specs.declared.Refusal.{Refusal}
 use Rattle.refusals.specs.declared.Refusal.the-variants.{FormLong, NoParse, TextLong}
 use Rattle.meaning.specs.Tree.{Tree}
 use Rattle.meaning.specs.Limits.{form-limit}
@@ -34,12 +33,7 @@ use Rattle.text_reader.specs.Turns.{stack-in, Fair, Comes, comes, GoesOn
 use Rattle.text_reader.specs.Converts.{Converts, NotConverted, ConvertedOk, Located, FaultOk, all-of, Ends, ends, Reached, reached, StopsAt, EndingOk, begun, finished}
 use Rattle.text_reader.proofs.EmitLaws.{nothing-emitted}
 use Rattle.text_reader.proofs.Grows.{onward, grows}
-
-stop-same : {m n : Refusal} {ts us : List Token} → _≡_ {A = Out (List Token) (List ℕ)} (stop m ts) (stop n us) → (m ≡ n) × (ts ≡ us)
-stop-same h = (cc, cc)
-
-as-stopped : {m n : Refusal} {ts us : List Token} → m ≡ n → ts ≡ us → _≡_ {A = Out (List Token) Tree} (stop m ts) (stop n us)
-as-stopped h k = cc
+use Rattle.text_reader.proofs.First.{as-definition}
 
 -- ---- what the machine comes to is what the definition reads
 
@@ -56,13 +50,8 @@ read-whole text e h = go (whole (length (tokens text)) (tokens text)) refl (sym 
     go (stop n ts) i j = not-stop j
 
 read-none : (text : List ℕ) (us : List Token) → all-of text ≡ stop NoParse us → tree-of-text text ≡ stop NoParse us
-unfolding tree-of-text tokens spots onward
-read-none text us h = go (whole (length (tokens text)) (tokens text)) refl (sym (grows (length (tokens text)) (tokens text) (omega arith)) ∙ h)
-  where
-    go : (o : Out (List Token) Tree) → whole (length (tokens text)) (tokens text) ≡ o → onward o (λ t vs. done (write t) vs) ≡ stop NoParse us
-        → whole (length (tokens text)) (tokens text) ≡ stop NoParse us
-    go (done t ts) i j = not-stop (sym j)
-    go (stop n ts) i j = let (x, y) = stop-same j in i ∙ as-stopped x y
+unfolding tree-of-text tokens spots
+read-none text us h = as-definition (length (tokens text)) (tokens text) us (omega arith) h
 
 module _ (text : List ℕ) (short : length text ≤ text-limit) where
   read-as : (u : ℕ) (t : Tree) (ts : List Token) → tree-of-text text ≡ done t ts → read-text text u ≡ read-form (write t) u

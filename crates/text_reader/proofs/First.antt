@@ -4,7 +4,6 @@ use mathlib.Core.Path.{_≡_, refl, sym, _∙_, ap}
 use mathlib.Core.List.{List, [], _∷_, _++_}
 use native.Mathlib.Omega.{arith}
 use lib.ListN.{length}
-use Rattle.refusals.specs.declared.Refusal.{Refusal}
 use Rattle.refusals.specs.declared.Refusal.the-variants.{NoParse}
 use Rattle.meaning.specs.Tree.{Tree}
 use Rattle.meaning.specs.Form.{write}
@@ -15,11 +14,7 @@ use Rattle.text_reader.specs.declared.machine.Want.{Want}
 use Rattle.text_reader.specs.declared.machine.Want.the-variants.{Whole, First, More, Last, Bracket, Nothing}
 use Rattle.text_reader.specs.Machine.{Next, on, no, on-token, at-end, run}
 use Rattle.text_reader.proofs.Grows.{onward, grows}
-use Rattle.text_reader.proofs.Open.{Good, GoesWell, goes-well, went-well}
-
--- what a stop leaves
-left-same : {A : Type 0} {m n : Refusal} {ts us : List Token} → _≡_ {A = Out (List Token) A} (stop m ts) (stop n us) → ts ≡ us
-left-same h = cc
+use Rattle.text_reader.proofs.Open.{left-same, Good, GoesWell, goes-well, went-well}
 
 -- ---- the machine
 
@@ -63,7 +58,7 @@ as-machine : (k : ℕ) (ts us : List Token) → length ts ≤ k → whole k ts �
 unfolding onward
 as-machine k ts us l h = grows k ts (omega arith) ∙ rw (h, onward) refl
 
-as-definition : (k : ℕ) (ts us : List Token) → length ts ≤ k → run ts Whole [] [] ≡ stop NoParse us → whole k ts ≡ stop NoParse us
+pub as-definition : (k : ℕ) (ts us : List Token) → length ts ≤ k → run ts Whole [] [] ≡ stop NoParse us → whole k ts ≡ stop NoParse us
 unfolding onward
 as-definition k ts us l h = go (whole k ts) refl (sym (grows k ts (omega arith)) ∙ h)
   where

@@ -6,6 +6,7 @@ use mathlib.Core.Option.{Option, none, some}
 use native.Mathlib.Omega.{arith}
 use borrow.Author.Tests.{ne-eqb}
 use lib.ListN.{length, length-append}
+use Rattle.refusals.specs.declared.Refusal.{Refusal}
 use Rattle.refusals.specs.declared.Refusal.the-variants.{NoParse}
 use Rattle.meaning.specs.Meter.{Out, done, stop}
 use Rattle.notation.specs.declared.Place.{Place}
@@ -156,8 +157,9 @@ can-end (Last p) st f s = before-them opening (Last p) (First p) st (3 ∷ st) f
 
 -- ---- what stands before the token at which the machine stops
 
-stop-left : {ts us : List Token} → _≡_ {A = Out (List Token) (List ℕ)} (stop NoParse ts) (stop NoParse us) → ts ≡ us
-stop-left h = cc
+-- what a stop leaves
+pub left-same : {m n : Refusal} {ts us : List Token} → _≡_ {A = Out (List Token) (List ℕ)} (stop m ts) (stop n us) → ts ≡ us
+left-same h = cc
 
 -- some tokens after which the text ends well
 pub data GoesWell (before : List Token) (w : Want) (st f : List ℕ) : Type 0 where
@@ -185,4 +187,4 @@ went-well (t ∷ before) u us w st f s h = go (on-token t w st f) refl (λ w′ 
 
     go : (o : Next) → on-token t w st f ≡ o → ((w′ : Want) (st′ f′ : List ℕ) → Good w′ st′ → run (before ++ (u ∷ us)) w′ st′ f′ ≡ stop NoParse (u ∷ us) → GoesWell before w′ st′ f′) → GoesWell (t ∷ before) w st f
     go (on w′ st′ f′) e ih = further w′ st′ f′ e (ih w′ st′ f′ (next w′ st′ f′ e (good-token t w st f s)) (rw (e, run) at h))
-    go no e ih = absurd (longer (stop-left (rw (e, run) at h)))
+    go no e ih = absurd (longer (left-same (rw (e, run) at h)))
