@@ -2,7 +2,6 @@
 use mathlib.Core.Path.{_≡_}
 use mathlib.Core.List.{List}
 use Prim.Native.Nat.{ℕ, _-_}
-use lib.ListN.{length}
 use native.Mathlib.Omega.{arith}
 use Rattle.meaning.specs.Limits.{nesting-limit}
 use Rattle.meaning.specs.Driver.{optimize-sexp}
@@ -18,8 +17,8 @@ use Rattle.run_state.specs.State.{Valid, sounds}
 use Rattle.driver_parts.specs.Turns.{Fine, fresh-work}
 
 -- an empty memo
-pub start-valid : (f s : List ℕ) (st : State) → st .used ≡ 0 → length (st .memo) ≡ 256 → Valid f s st
-start-valid f s st e l = sounds l (omega arith) (λ i o. absurd (omega (arith, e)))
+pub start-valid : (f s : List ℕ) (row : List (List ℕ)) (st : State) → st .used ≡ 0 → Valid f s row st
+start-valid f s row st e = sounds (omega (arith, e)) (λ i o. absurd (omega (arith, e)))
 
 module _ (f s : List ℕ) (w : Work) (c : Charges) (n : ℕ) (e : w ≡ fresh-work c) where
   pub start-fine : (p : Patterns) → Ready f s c n → Patterned f s c p → Fine f s w p n

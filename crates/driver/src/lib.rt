@@ -1,26 +1,28 @@
 // `optimize_sexp_`: the driver's loop, and the rules that call it.
+use driver_parts::Element;
 use memo::Answer;
 use patterns::Patterns;
-use planning::Plan;
 use refusals::Refusal;
-use run_state::Entry;
+use rules::Applied;
 use run_state::Outcome;
+use run_state::Record;
 use run_state::State;
 use run_state::Work;
 use store::Cell;
 use store::Charges;
+use substitute::Sub;
 ghost use mathlib.Core.Path.{_≡_};
 ghost use mathlib.Core.Bool.{true, false};
 ghost use Prim.Native.Nat.{_≤_, _<_};
-ghost use lib.ListN.{length};
 ghost use Rattle.meaning.specs.Limits.{nesting-limit, height-at};
+ghost use Rattle.meaning.specs.Rules.{settle, var-change-optimizer-cons-eval, children-optimizer};
 ghost use Rattle.meaning.specs.Driver.{optimize-sexp};
 ghost use Rattle.store.specs.Nodes.{tree-in};
 ghost use Rattle.store.specs.Store.{Ready};
 ghost use Rattle.patterns.specs.Patterns.{Patterned};
 ghost use Rattle.run_state.specs.Work.{spentOf, Did};
 ghost use Rattle.run_state.specs.State.{Valid, Still};
-ghost use Rattle.driver_parts.specs.Turns.{again, optimizer, Fine, fresh-work};
+ghost use Rattle.driver_parts.specs.Turns.{again, optimizer, one-turn, Fine, fresh-work};
 ghost use Rattle.driver_parts.specs.Walk.{walk, Walked};
 ghost use Rattle.driver.specs.Alone.{one-rule};
 
@@ -28,6 +30,7 @@ ghost use Rattle.driver.specs.Alone.{one-rule};
 fn operands(
     form: &[u8],
     room: &mut [u8],
+    row: &mut [Record],
     p: Patterns,
     st: State,
     list: usize,
@@ -35,8 +38,8 @@ fn operands(
     count: bool,
     flag: bool,
 ) -> State
-    requires { ⌜ Fine (now form) (now room) (st .w) p list × (nest < 65) × Valid (now form) (now room) st ⌝ }
-    ensures { λ r. ⌜ Walked (now (form .entry)) (now (room .entry)) (now (room .exit)) (st .w) (walk count (again nest) flag (tree-in form room list) (spentOf (st .w))) (r .w) × Still (now (form .entry)) (now (room .exit)) r ⌝ }
+    requires { ⌜ Fine (now form) (now room) (st .w) p list × (nest < 65) × Valid (now form) (now room) (now row) st ⌝ }
+    ensures { λ r. ⌜ Walked (now (form .entry)) (now (room .entry)) (now (room .exit)) (st .w) (walk count (again nest) flag (tree-in form room list) (spentOf (st .w))) (r .w) × Still (now (form .entry)) (now (room .exit)) (now (row .exit)) r ⌝ }
 {
     let mut s = st;
     let mut q = list;
@@ -47,36 +50,18 @@ fn operands(
         match store::look_node(room, q) {
             Cell::Atom => {
                 let c = s.w;
-                let d = driver_parts::build(
-                    form,
-                    room,
-                    c,
-                    got,
-                    k,
-                    q,
-                    driver_parts::is_made(count, seen),
-                );
+                let make = driver_parts::is_made(count, seen);
+                let d = driver_parts::build(form, room, c, got, k, q, make);
                 s.w = d;
                 return s;
             }
             Cell::Pair(h, t) => {
                 if 64 <= k {
-                    s = operands(form, room, p, s, q, nest, count, seen);
+                    s = operands(form, room, row, p, s, q, nest, count, seen);
                     let c = s.w;
-                    let o = c.last;
-                    match o {
-                        Outcome::Changed(m) => {
-                            let d = driver_parts::build(form, room, c, got, k, m, true);
-                            s.w = d;
-                            return s;
-                        }
-                        Outcome::Same => {
-                            return s;
-                        }
-                        Outcome::Stopped(_) => {
-                            return s;
-                        }
-                    }
+                    let d = driver_parts::put_before(form, room, c, got, k);
+                    s.w = d;
+                    return s;
                 }
                 match store::look_node(room, h) {
                     Cell::Atom => {
@@ -88,42 +73,232 @@ fn operands(
                         }
                         got[k] = h as u16;
                         k += 1;
+                        q = t;
                     }
                     Cell::Pair(_, _) => {
-                        s = drive(form, room, p, s, h, nest + 1);
+                        s = drive(form, room, row, p, s, h, nest + 1);
                         let c = s.w;
-                        let o = c.last;
-                        match o {
-                            Outcome::Changed(m) => {
-                                got[k] = m as u16;
-                                k += 1;
-                                seen = driver_parts::flag_after(form, room, m, count, true, seen);
-                            }
-                            Outcome::Same => {
-                                got[k] = h as u16;
-                                k += 1;
-                                seen = driver_parts::flag_after(form, room, h, count, false, seen);
-                            }
-                            Outcome::Stopped(_) => {
+                        match driver_parts::worked_into(form, room, c, h, count, seen) {
+                            Element::Refused => {
                                 return s;
+                            }
+                            Element::Put(m, b) => {
+                                got[k] = m;
+                                k += 1;
+                                seen = b;
+                                q = t;
                             }
                         }
                     }
                 }
-                q = t;
             }
         }
     }
 }
 
+// ---- 4. `var_change_optimizer_cons_eval`
+
+// What becomes of the changed body `new` of r.
+fn settle(
+    form: &[u8],
+    room: &mut [u8],
+    row: &mut [Record],
+    p: Patterns,
+    st: State,
+    r: usize,
+    new: usize,
+    low: bool,
+    nest: usize,
+) -> State
+    requires { ⌜ Fine (now form) (now room) (st .w) p r × Fine (now form) (now room) (st .w) p new × (nest < 65) × Valid (now form) (now room) (now row) st ⌝ }
+    ensures { λ q. ⌜ Did (now (form .entry)) (now (room .entry)) (now (room .exit)) (st .w) (tree-in form room r) (settle (again nest) (tree-in form room r) (tree-in form room new) low (spentOf (st .w))) (q .w) × Still (now (form .entry)) (now (room .exit)) (now (row .exit)) q ⌝ }
+{
+    let mut s = st;
+    let c = s.w;
+    let ch = c.ch;
+    if seems::seems_constant(form, room, ch, new) {
+        s = drive(form, room, row, p, s, new, nest + 1);
+        let d = s.w;
+        let e = driver_parts::keep_body(form, room, d, r, new, low);
+        s.w = e;
+        return s;
+    }
+    if !sexp::proper_list_node(form, room, new) {
+        let d = run_state::with(c, Outcome::Same);
+        s.w = d;
+        return s;
+    }
+    s = operands(form, room, row, p, s, new, nest, true, false);
+    let d = s.w;
+    let e = driver_parts::keep_list(form, room, d, r, low);
+    s.w = e;
+    s
+}
+
+fn var_change_optimizer_cons_eval(
+    form: &[u8],
+    room: &mut [u8],
+    row: &mut [Record],
+    p: Patterns,
+    st: State,
+    n: usize,
+    nest: usize,
+) -> State
+    requires { ⌜ Fine (now form) (now room) (st .w) p n × (nest < 65) × Valid (now form) (now room) (now row) st ⌝ }
+    ensures { λ q. ⌜ Did (now (form .entry)) (now (room .entry)) (now (room .exit)) (st .w) (tree-in form room n) (var-change-optimizer-cons-eval (again nest) (tree-in form room n) (spentOf (st .w))) (q .w) × Still (now (form .entry)) (now (room .exit)) (now (row .exit)) q ⌝ }
+{
+    let mut s = st;
+    let c = s.w;
+    let ch = c.ch;
+    match rules::applied_of(form, room, p, ch, n) {
+        Applied::Other => {
+            let d = run_state::with(c, Outcome::Same);
+            s.w = d;
+            return s;
+        }
+        Applied::Call(b, a) => match substitute::sub_args(form, room, p, ch, b, a) {
+            Sub::Refused(e) => {
+                let d = run_state::with(c, Outcome::Stopped(e));
+                s.w = d;
+                return s;
+            }
+            Sub::Done(x) => {
+                let g = x.ch;
+                let d = Work {
+                    ch: g,
+                    passes: c.passes,
+                    mark: c.mark,
+                    last: Outcome::Same,
+                };
+                s.w = d;
+                s = settle(form, room, row, p, s, n, x.node, x.low, nest);
+                return s;
+            }
+        },
+    }
+}
+
+// ---- 5. `children_optimizer`
+
+fn children_optimizer(
+    form: &[u8],
+    room: &mut [u8],
+    row: &mut [Record],
+    p: Patterns,
+    st: State,
+    n: usize,
+    nest: usize,
+) -> State
+    requires { ⌜ Fine (now form) (now room) (st .w) p n × (nest < 65) × Valid (now form) (now room) (now row) st ⌝ }
+    ensures { λ q. ⌜ Did (now (form .entry)) (now (room .entry)) (now (room .exit)) (st .w) (tree-in form room n) (children-optimizer (again nest) (tree-in form room n) (spentOf (st .w))) (q .w) × Still (now (form .entry)) (now (room .exit)) (now (row .exit)) q ⌝ }
+{
+    let mut s = st;
+    let c = s.w;
+    if rules::is_quote_node(form, room, n) {
+        let d = run_state::with(c, Outcome::Same);
+        s.w = d;
+        return s;
+    }
+    if !sexp::proper_list_node(form, room, n) {
+        let d = run_state::with(c, Outcome::Same);
+        s.w = d;
+        return s;
+    }
+    s = operands(form, room, row, p, s, n, nest, false, false);
+    s
+}
+
+// ---- the rules, by number
+
+fn optimizer(
+    form: &[u8],
+    room: &mut [u8],
+    row: &mut [Record],
+    p: Patterns,
+    st: State,
+    n: usize,
+    nest: usize,
+    rule: usize,
+) -> State
+    requires { ⌜ Fine (now form) (now room) (st .w) p n × (nest < 65) × (0 < rule) × (rule ≤ 8) × Valid (now form) (now room) (now row) st ⌝ }
+    ensures { λ q. ⌜ Did (now (form .entry)) (now (room .entry)) (now (room .exit)) (st .w) (tree-in form room n) (optimizer (again nest) rule (tree-in form room n) (spentOf (st .w))) (q .w) × Still (now (form .entry)) (now (room .exit)) (now (row .exit)) q ⌝ }
+{
+    if rule == 4 {
+        return var_change_optimizer_cons_eval(form, room, row, p, st, n, nest);
+    }
+    if rule == 5 {
+        return children_optimizer(form, room, row, p, st, n, nest);
+    }
+    let mut s = st;
+    let c = s.w;
+    let d = driver_parts::simple(form, room, p, c, n, rule);
+    s.w = d;
+    s
+}
+
 // ---- the driver
 
-// `optimize_sexp_` at nesting `nest`: what the memo says; else turns over a node until no rule ends a pass, and then an entry. Same where
-// no rule ended one. `left` rules are left in a turn; where none is, a turn begins. A rule that was `worked` is seen to at the loop's head.
-// Only this function and `operands` hold the memo: what is done before and after their calls needs what is spent alone.
-pub fn drive(form: &[u8], room: &mut [u8], p: Patterns, st: State, n: usize, nest: usize) -> State
-    requires { ⌜ Fine (now form) (now room) (st .w) p n × (nest < 66) × Valid (now form) (now room) st ⌝ }
-    ensures { λ q. ⌜ Did (now (form .entry)) (now (room .entry)) (now (room .exit)) (st .w) (tree-in form room n) (optimize-sexp (height-at nest) (tree-in form room n) (spentOf (st .w))) (q .w) × Still (now (form .entry)) (now (room .exit)) q ⌝ }
+// One turn of the driver's loop: a pass on a pair, in which the first rule that changes the node ends it; nothing on an atom.
+fn turn(
+    form: &[u8],
+    room: &mut [u8],
+    row: &mut [Record],
+    p: Patterns,
+    st: State,
+    n: usize,
+    nest: usize,
+) -> State
+    requires { ⌜ Fine (now form) (now room) (st .w) p n × (nest < 65) × Valid (now form) (now room) (now row) st ⌝ }
+    ensures { λ q. ⌜ Did (now (form .entry)) (now (room .entry)) (now (room .exit)) (st .w) (tree-in form room n) (one-turn (again nest) (tree-in form room n) (spentOf (st .w))) (q .w) × Still (now (form .entry)) (now (room .exit)) (now (row .exit)) q ⌝ }
+{
+    let mut s = st;
+    let c = s.w;
+    let b = driver_parts::begin(form, room, c, n);
+    s.w = b;
+    let v = b.last;
+    match v {
+        Outcome::Changed(_) => {
+            let d = run_state::with(b, Outcome::Same);
+            s.w = d;
+            return s;
+        }
+        Outcome::Stopped(_) => {
+            return s;
+        }
+        Outcome::Same => {}
+    }
+    let mut rule: usize = 1;
+    while rule < 9 {
+        s = optimizer(form, room, row, p, s, n, nest, rule);
+        let e = s.w;
+        let o = e.last;
+        match o {
+            Outcome::Same => {
+                rule += 1;
+            }
+            Outcome::Changed(_) => {
+                return s;
+            }
+            Outcome::Stopped(_) => {
+                return s;
+            }
+        }
+    }
+    s
+}
+
+// `optimize_sexp_` at nesting `nest`: what the memo says; else turns until none changes the node, and then an entry. Same where none did.
+pub fn drive(
+    form: &[u8],
+    room: &mut [u8],
+    row: &mut [Record],
+    p: Patterns,
+    st: State,
+    n: usize,
+    nest: usize,
+) -> State
+    requires { ⌜ Fine (now form) (now room) (st .w) p n × (nest < 66) × Valid (now form) (now room) (now row) st ⌝ }
+    ensures { λ q. ⌜ Did (now (form .entry)) (now (room .entry)) (now (room .exit)) (st .w) (tree-in form room n) (optimize-sexp (height-at nest) (tree-in form room n) (spentOf (st .w))) (q .w) × Still (now (form .entry)) (now (room .exit)) (now (row .exit)) q ⌝ }
 {
     let mut s = st;
     let c = s.w;
@@ -132,9 +307,8 @@ pub fn drive(form: &[u8], room: &mut [u8], p: Patterns, st: State, n: usize, nes
         s.w = d;
         return s;
     }
-    let m = s.memo;
     let used = s.used;
-    match memo::lookup(form, room, c, m, used, n, nest) {
+    match memo::lookup(form, room, row, c, used, n, nest) {
         Answer::Known(d) => {
             s.w = d;
             return s;
@@ -142,111 +316,40 @@ pub fn drive(form: &[u8], room: &mut [u8], p: Patterns, st: State, n: usize, nes
         Answer::Unknown => {}
     }
     let mut r = n;
-    let mut left: usize = 0;
     let mut moved = false;
-    let mut worked = false;
     loop {
-        if worked {
-            let e = s.w;
-            let o = e.last;
-            match o {
-                Outcome::Stopped(_) => {
-                    return s;
-                }
-                Outcome::Same => {
-                    if left <= 1 {
-                        let d = driver_parts::finish(e, r, moved);
-                        s.w = d;
-                        s = memo::store(form, room, s, c, n, r, nest);
-                        return s;
-                    }
-                    left -= 1;
-                    worked = false;
-                }
-                Outcome::Changed(m) => {
-                    r = m;
-                    left = 0;
-                    moved = true;
-                    worked = false;
-                }
+        s = turn(form, room, row, p, s, r, nest);
+        let e = s.w;
+        let o = e.last;
+        match o {
+            Outcome::Stopped(_) => {
+                return s;
             }
-        } else if 0 < left {
-            let w = s.w;
-            match planning::start_rule(form, room, p, w, r, 9 - left) {
-                Plan::Worked(d) => {
-                    s.w = d;
-                    worked = true;
-                }
-                Plan::Constant(b) => {
-                    let d = b.w;
-                    s.w = d;
-                    s = drive(form, room, p, s, b.node, nest + 1);
-                    let e = s.w;
-                    let g = planning::keep_body(form, room, e, r, b.node, b.low);
-                    s.w = g;
-                    worked = true;
-                }
-                Plan::Listed(b) => {
-                    let d = b.w;
-                    s.w = d;
-                    s = operands(form, room, p, s, b.node, nest, true, false);
-                    let e = s.w;
-                    let g = planning::keep_list(form, room, e, r, b.low);
-                    s.w = g;
-                    worked = true;
-                }
-                Plan::Elements => {
-                    s = operands(form, room, p, s, r, nest, false, false);
-                    worked = true;
-                }
+            Outcome::Changed(m) => {
+                r = m;
+                moved = true;
             }
-        } else {
-            let w = s.w;
-            let b = driver_parts::begin(form, room, w, r);
-            let v = b.last;
-            match v {
-                Outcome::Changed(_) => {
-                    let d = driver_parts::finish(b, r, moved);
-                    s.w = d;
-                    s = memo::store(form, room, s, c, n, r, nest);
-                    return s;
-                }
-                Outcome::Stopped(_) => {
-                    s.w = b;
-                    return s;
-                }
-                Outcome::Same => {
-                    s.w = b;
-                    left = 8;
-                }
+            Outcome::Same => {
+                let d = driver_parts::finish(e, r, moved);
+                s.w = d;
+                s = memo::store(form, room, row, s, c, n, r, nest);
+                return s;
             }
         }
     }
 }
 
-// A state that has spent what ch says, with an empty memo.
+// A state that has spent what ch says, with no record in use.
 fn fresh(ch: Charges) -> State
-    ensures { λ r. ⌜ (r .w ≡ fresh-work ch) × (r .used ≡ 0) × (length (r .memo) ≡ 256) ⌝ }
+    ensures { λ r. ⌜ (r .w ≡ fresh-work ch) × (r .used ≡ 0) ⌝ }
 {
-    let e = Entry {
-        expr: 0,
-        result: 0,
-        passes: 0,
-        units: 0,
-        height: 0,
-    };
-    let m = [e; 256];
     let w = Work {
         ch: ch,
         passes: 0,
         mark: false,
         last: Outcome::Same,
     };
-    State {
-        w: w,
-        used: 0,
-        memo: m,
-    }
+    State { w: w, used: 0 }
 }
 
 // `optimize_sexp`: the outermost call.
@@ -254,39 +357,10 @@ pub fn optimize_node(form: &[u8], room: &mut [u8], p: Patterns, ch: Charges, n: 
     requires { ⌜ Ready (now form) (now room) ch n × Patterned (now form) (now room) ch p ⌝ }
     ensures { λ w. ⌜ Did (now (form .entry)) (now (room .entry)) (now (room .exit)) (fresh-work ch) (tree-in form room n) (optimize-sexp nesting-limit (tree-in form room n) (spentOf (fresh-work ch))) w ⌝ }
 {
+    let mut row = [[0u16; 6]; 256];
     let s = fresh(ch);
-    let r = drive(form, room, p, s, n, 1);
+    let r = drive(form, room, &mut row[..], p, s, n, 1);
     r.w
-}
-
-// One rule of this number at nesting 1, with the driver below it.
-fn one_rule(form: &[u8], room: &mut [u8], p: Patterns, st: State, n: usize, rule: usize) -> Work
-    requires { ⌜ Fine (now form) (now room) (st .w) p n × (0 < rule) × (rule ≤ 8) × Valid (now form) (now room) st ⌝ }
-    ensures { λ q. ⌜ Did (now (form .entry)) (now (room .entry)) (now (room .exit)) (st .w) (tree-in form room n) (optimizer (again 1) rule (tree-in form room n) (spentOf (st .w))) q ⌝ }
-{
-    let mut s = st;
-    let w = s.w;
-    match planning::start_rule(form, room, p, w, n, rule) {
-        Plan::Worked(d) => d,
-        Plan::Constant(b) => {
-            let d = b.w;
-            s.w = d;
-            s = drive(form, room, p, s, b.node, 2);
-            let e = s.w;
-            planning::keep_body(form, room, e, n, b.node, b.low)
-        }
-        Plan::Listed(b) => {
-            let d = b.w;
-            s.w = d;
-            s = operands(form, room, p, s, b.node, 1, true, false);
-            let e = s.w;
-            planning::keep_list(form, room, e, n, b.low)
-        }
-        Plan::Elements => {
-            s = operands(form, room, p, s, n, 1, false, false);
-            s.w
-        }
-    }
 }
 
 // One rule alone, by its number, at nesting 1 in a first pass.
@@ -301,6 +375,7 @@ pub fn apply_node(
     requires { ⌜ Ready (now form) (now room) ch n × Patterned (now form) (now room) ch p × (0 < rule) × (rule ≤ 8) ⌝ }
     ensures { λ w. ⌜ Did (now (form .entry)) (now (room .entry)) (now (room .exit)) (fresh-work ch) (tree-in form room n) (one-rule rule (tree-in form room n) (spentOf (fresh-work ch))) w ⌝ }
 {
+    let mut row = [[0u16; 6]; 256];
     let mut s = fresh(ch);
     let w = s.w;
     let b = driver_parts::begin(form, room, w, n);
@@ -310,7 +385,8 @@ pub fn apply_node(
         Outcome::Stopped(_) => b,
         Outcome::Same => {
             s.w = b;
-            one_rule(form, room, p, s, n, rule)
+            let r = optimizer(form, room, &mut row[..], p, s, n, 1, rule);
+            r.w
         }
     }
 }

@@ -31,12 +31,15 @@ use Rattle.store.proofs.Ready as ready
 use Rattle.store.proofs.Ready.{small, fall-right, ready-left, ready-right, look-pair, look-atom, grown-none, grown-both, grown-ready, grown-tree}
 use Rattle.sexp.specs.Lists.{Items}
 use Rattle.patterns.specs.declared.Patterns.{Patterns}
+use Rattle.run_state.specs.declared.Outcome.{Outcome}
 use Rattle.run_state.specs.declared.Outcome.the-variants.{Same, Changed, Stopped}
 use Rattle.run_state.specs.declared.Work.{Work}
 use Rattle.run_state.specs.Work.{spentOf, with-last, Same-as, Changed-to, Did}
 use Rattle.run_state.proofs.Does.{says-same, says-changed, says-stopped}
+use Rattle.driver_parts.specs.declared.Element.{Element}
+use Rattle.driver_parts.specs.declared.Element.the-variants.{Put, Refused}
 use Rattle.driver_parts.specs.Turns.{again, Fine}
-use Rattle.driver_parts.specs.Walk.{test-of, walk, made-list, sets-flag, wrap, Made-at, Walked}
+use Rattle.driver_parts.specs.Walk.{test-of, walk, made-list, sets-flag, wrap, Made-at, Walked, Puttable, PutBefore, Stands, Became}
 use Rattle.driver_parts.proofs.Saying.{walked-none, walked-made, walked-stopped, walk-none, walk-stopped, walk-stops, walks-on}
 use Rattle.driver_parts.proofs.Wraps.{wrap-none, wrap-stop, wrap-kept, wrap-put}
 use Rattle.driver_parts.proofs.Kept.{fine-kept, fine-room, fine-fits}
@@ -82,10 +85,10 @@ unfolding walk
 step-stops count nest seen h t s x n e = work-stops (test-of count) (not count) (again nest) seen h t s x n e
 
 again-atom : (nest : ℕ) (b : List ℕ) (s : Spent) → nest < 64 → again nest (atom b) s ≡ done (atom b) s
-again-atom nest b s l = let e : 65 - (nest + 1) ≡ suc (63 - nest) = omega arith in ap (λ (d : ℕ). optimize-sexp d (atom b) s) e ∙ works-atom (63 - nest) b s
+again-atom nest b s l = let e : height-at (nest + 1) ≡ suc (63 - nest) = omega arith in ap (λ (d : ℕ). optimize-sexp d (atom b) s) e ∙ works-atom (63 - nest) b s
 
 again-deep : (nest : ℕ) (t : Tree) (s : Spent) → 64 ≤ nest → again nest t s ≡ stop TooDeep s
-again-deep nest t s l = let e : 65 - (nest + 1) ≡ 0 = omega arith in ap (λ (d : ℕ). optimize-sexp d t s) e ∙ too-deep t s
+again-deep nest t s l = let e : height-at (nest + 1) ≡ 0 = omega arith in ap (λ (d : ℕ). optimize-sexp d t s) e ∙ too-deep t s
 
 -- ---- the results
 
@@ -172,7 +175,7 @@ module _ (f : List ℕ) (p : Patterns) (nest list : ℕ) (count flag : Bool) (ro
   pub chunk-down : (t : ℕ) → 64 ≤ k → (66 - nest) * 70_000 + list ≡ t → (66 - nest) * 70_000 + q < t
   chunk-down t h e = omega (arith, i .less)
 
-  pub chunk-deep : (t : ℕ) → (66 - nest) * 70_000 + list ≡ t → (66 - (nest + 1)) * 70_000 + 65_540 < t
+  pub chunk-deep : (t : ℕ) → (66 - nest) * 70_000 + list ≡ t → (66 - (nest + 1)) * 70_000 + 65_545 < t
   chunk-deep t e = omega (arith, i .nests)
 
   -- the list's end
@@ -190,12 +193,12 @@ module _ (f : List ℕ) (p : Patterns) (nest list : ℕ) (count flag : Bool) (ro
     over : (o : Out Spent (Option Tree)) → walk count (again nest) seen (treeAt f room q) (spentOf w) ≡ o → total ≡ wrap f room got k o
     over o e = sym (i .rest) ∙ ap (wrap f room got k) e
 
-    pub more-none : w₁ .last ≡ Same → Walked f room₀ r₁ w₀ (walk count (again nest) flag (treeAt f room₀ list) (spentOf w₀)) w₁
+    more-none : w₁ .last ≡ Same → Walked f room₀ r₁ w₀ (walk count (again nest) flag (treeAt f room₀ list) (spentOf w₀)) w₁
     more-none e =
         let u = walked-none f room r₁ w w₁ _ d e in
         walk-none f room₀ r₁ w₀ w₁ _ e (record { grown = grown-both (i .grown) (u .grown); gives = over _ (u .gives) ∙ wrap-none f room got k (spentOf w₁) })
 
-    pub more-stop : (n : Refusal) → w₁ .last ≡ Stopped n → Walked f room₀ r₁ w₀ (walk count (again nest) flag (treeAt f room₀ list) (spentOf w₀)) w₁
+    more-stop : (n : Refusal) → w₁ .last ≡ Stopped n → Walked f room₀ r₁ w₀ (walk count (again nest) flag (treeAt f room₀ list) (spentOf w₀)) w₁
     more-stop n e =
         let u = walked-stopped f room r₁ w w₁ _ n d e in
         walk-stopped f room₀ r₁ w₀ w₁ _ n (u .after) e (over _ (u .stops) ∙ wrap-stop f room got k n (u .after))
@@ -204,16 +207,34 @@ module _ (f : List ℕ) (p : Patterns) (nest list : ℕ) (count flag : Bool) (ro
       abbrev made : Made-at f room r₁ w w₁ m (walk count (again nest) seen (treeAt f room q) (spentOf w))
       made = walked-made f room r₁ w w₁ _ m d e
 
-      pub more-both : Ready f r₁ (w₁ .ch) m × Items r₁ (w₁ .ch) got k
+      more-both : Ready f r₁ (w₁ .ch) m × Items r₁ (w₁ .ch) got k
       more-both = (made .ready, items-kept f room r₁ w w₁ got k (i .items) (made .grown))
 
-      pub more-built : (r₂ : List ℕ) (v : Work) → Walked f r₁ r₂ w₁ (wrap f r₁ got k (done (ending true (treeAt f r₁ m)) (spentOf w₁))) v
+      more-built : (r₂ : List ℕ) (v : Work) → Walked f r₁ r₂ w₁ (wrap f r₁ got k (done (ending true (treeAt f r₁ m)) (spentOf w₁))) v
           → Walked f room₀ r₂ w₀ (walk count (again nest) flag (treeAt f room₀ list) (spentOf w₀)) v
       unfolding ending
       more-built r₂ v g =
           walks-on f room₀ r₁ r₂ w₀ w₁ v _ _ (grown-both (i .grown) (made .grown)) g
           (wrap-kept f room got r₁ k (λ j l. made .grown .trees (getD got j 0) (i .items .nodes j l) (i .items .old j l)) (done (some (treeAt f r₁ m)) (spentOf w₁))
           ∙ sym (over _ (made .gives)))
+
+    pub more-puttable : Puttable f r₁ w₁ got k (w₁ .last)
+    unfolding Puttable
+    more-puttable = go (w₁ .last) refl
+      where
+        go : (o : Outcome) → w₁ .last ≡ o → Puttable f r₁ w₁ got k o
+        go Same e = tt
+        go (Changed m) e = more-both m e
+        go (Stopped u) e = tt
+
+    pub more-put : (r₂ : List ℕ) (v : Work) → PutBefore f r₁ r₂ w₁ got k v (w₁ .last) → Walked f room₀ r₂ w₀ (walk count (again nest) flag (treeAt f room₀ list) (spentOf w₀)) v
+    unfolding PutBefore ending
+    more-put r₂ v z = go (w₁ .last) refl z
+      where
+        go : (o : Outcome) → w₁ .last ≡ o → PutBefore f r₁ r₂ w₁ got k v o → Walked f room₀ r₂ w₀ (walk count (again nest) flag (treeAt f room₀ list) (spentOf w₀)) v
+        go Same e z = rw (z .work, z .room) (more-none e)
+        go (Changed m) e z = more-built m e r₂ v z
+        go (Stopped u) e z = rw (z .work, z .room) (more-stop u e)
 
   -- one element more
   module _ (a : Cell) (ea : a ≡ cellAt room q) (h t : ℕ) (pa : a ≡ Pair h t) where
@@ -229,11 +250,11 @@ module _ (f : List ℕ) (p : Patterns) (nest list : ℕ) (count flag : Bool) (ro
     pub elem-room : Room room h
     elem-room = ready.room f room (w .ch) h elem-ready
 
-    pub elem-fine : Fine f room w p h
-    elem-fine = record { ready = elem-ready; patterned = i .fine .patterned; passes = i .fine .passes }
-
     pub elem-small : h < 65536
     elem-small = small f room (w .ch) h elem-ready
+
+    pub elem-fine : Fine f room w p h
+    elem-fine = record { ready = elem-ready; patterned = i .fine .patterned; passes = i .fine .passes }
 
     pub elem-falls : t < q
     elem-falls = fall-right f room (w .ch) q h t a pa ea
@@ -291,7 +312,7 @@ module _ (f : List ℕ) (p : Patterns) (nest list : ℕ) (count flag : Bool) (ro
           (on (treeAt f room h) (spentOf w) seen e (sym (or-false seen) ∙ ap (seen ||_) (sym z)))
 
     module _ (r₁ : List ℕ) (w₁ : Work) (d : Did f room r₁ w (treeAt f room h) (optimize-sexp (height-at (nest + 1)) (treeAt f room h) (spentOf w)) w₁) where
-      pub elem-stop : (n : Refusal) → w₁ .last ≡ Stopped n → Walked f room₀ r₁ w₀ (walk count (again nest) flag (treeAt f room₀ list) (spentOf w₀)) w₁
+      elem-stop : (n : Refusal) → w₁ .last ≡ Stopped n → Walked f room₀ r₁ w₀ (walk count (again nest) flag (treeAt f room₀ list) (spentOf w₀)) w₁
       elem-stop n e = let u = says-stopped f room r₁ w w₁ _ _ d n e in walk-stopped f room₀ r₁ w₀ w₁ _ n (u .after) e (off n (u .after) (u .stops))
 
       fits : (u : Tree) → again nest (treeAt f room h) (spentOf w) ≡ done u (spentOf w₁) → w₁ .passes ≤ pass-limit
@@ -301,10 +322,7 @@ module _ (f : List ℕ) (p : Patterns) (nest list : ℕ) (count flag : Bool) (ro
         abbrev stay : Same-as f room r₁ w w₁ (treeAt f room h) (optimize-sexp (height-at (nest + 1)) (treeAt f room h) (spentOf w))
         stay = says-same f room r₁ w w₁ _ _ d e
 
-        pub same-room : Room r₁ h
-        same-room = ready.room f r₁ (w₁ .ch) h (grown-ready (stay .grown) elem-ready)
-
-        pub same-again : (b : Bool) → b ≡ (seen || sets-flag count false (treeAt f r₁ h)) → k < 64 → Chunk f p nest list count flag room₀ w₀ r₁ w₁ t b (set got k h) (k + 1)
+        same-again : (b : Bool) → b ≡ (seen || sets-flag count false (treeAt f r₁ h)) → k < 64 → Chunk f p nest list count flag room₀ w₀ r₁ w₁ t b (set got k h) (k + 1)
         same-again b eb lk =
             let eh : treeAt f r₁ h ≡ treeAt f room h = grown-tree (stay .grown) elem-ready in
             put r₁ w₁ h b (stay .grown) (grown-ready (stay .grown) elem-ready) (fits (treeAt f room h) (stay .gives)) lk
@@ -314,13 +332,35 @@ module _ (f : List ℕ) (p : Patterns) (nest list : ℕ) (count flag : Bool) (ro
         abbrev to : Changed-to f room r₁ w w₁ (treeAt f room h) m (optimize-sexp (height-at (nest + 1)) (treeAt f room h) (spentOf w))
         to = says-changed f room r₁ w w₁ _ _ d m e
 
-        pub changed-room : Room r₁ m
-        changed-room = ready.room f r₁ (w₁ .ch) m (to .ready)
-
-        pub changed-small : m < 65536
-        changed-small = small f r₁ (w₁ .ch) m (to .ready)
-
-        pub changed-again : (b : Bool) → b ≡ (seen || sets-flag count true (treeAt f r₁ m)) → k < 64 → Chunk f p nest list count flag room₀ w₀ r₁ w₁ t b (set got k m) (k + 1)
+        changed-again : (b : Bool) → b ≡ (seen || sets-flag count true (treeAt f r₁ m)) → k < 64 → Chunk f p nest list count flag room₀ w₀ r₁ w₁ t b (set got k m) (k + 1)
         changed-again b eb lk =
             put r₁ w₁ m b (to .grown) (to .ready) (fits (treeAt f r₁ m) (to .gives)) lk
             (on (treeAt f r₁ m) (spentOf w₁) b (to .gives) (eb ∙ ap (seen ||_) (changed count (treeAt f room h) (treeAt f r₁ m) (to .differs))))
+
+      pub elem-stands : Stands f r₁ w₁ h (w₁ .last)
+      unfolding Stands
+      elem-stands = go (w₁ .last) refl
+        where
+          go : (o : Outcome) → w₁ .last ≡ o → Stands f r₁ w₁ h o
+          go Same e = grown-ready (stay e .grown) elem-ready
+          go (Changed m) e = to m e .ready
+          go (Stopped u) e = tt
+
+      module _ (z : Element) (y : Became f r₁ h count seen z (w₁ .last)) where
+        pub elem-put : (m : ℕ) (b : Bool) → z ≡ Put m b → k < 64 → Chunk f p nest list count flag room₀ w₀ r₁ w₁ t b (set got k m) (k + 1)
+        unfolding Became
+        elem-put m b ez lk = go (w₁ .last) refl (subst (λ (a : Element). Became f r₁ h count seen a (w₁ .last)) ez y)
+          where
+            go : (o : Outcome) → w₁ .last ≡ o → Became f r₁ h count seen (Put m b) o → Chunk f p nest list count flag room₀ w₀ r₁ w₁ t b (set got k m) (k + 1)
+            go Same e q = rw (q .node) (same-again e b (q .sets) lk)
+            go (Changed n) e q = rw (q .node) (changed-again n e b (q .sets) lk)
+            go (Stopped u) e q = absurd q
+
+        pub elem-refused : z ≡ Refused → Walked f room₀ r₁ w₀ (walk count (again nest) flag (treeAt f room₀ list) (spentOf w₀)) w₁
+        unfolding Became
+        elem-refused ez = go (w₁ .last) refl (subst (λ (a : Element). Became f r₁ h count seen a (w₁ .last)) ez y)
+          where
+            go : (o : Outcome) → w₁ .last ≡ o → Became f r₁ h count seen Refused o → Walked f room₀ r₁ w₀ (walk count (again nest) flag (treeAt f room₀ list) (spentOf w₀)) w₁
+            go Same e q = absurd q
+            go (Changed n) e q = absurd q
+            go (Stopped u) e q = elem-stop u e

@@ -1,12 +1,14 @@
 -- What a function of the driver asks is kept as the store grows. Assumes nothing.
 use mathlib.Core.List.{List}
-use Prim.Native.Nat.{ℕ, _-_, _≤_}
+use mathlib.Core.Path.{_≡_}
+use Prim.Native.Nat.{ℕ, _+_, _-_, _*_, _<_, _≤_}
+use native.Mathlib.Omega.{arith}
 use Rattle.meaning.specs.Limits.{pass-limit}
 use Rattle.meaning.proofs.CostRun.{Fits}
 use Rattle.store.specs.Cells.{Room}
 use Rattle.store.specs.Store.{Ready}
 use Rattle.store.specs.Makers.{Grown}
-use Rattle.store.proofs.Ready.{room, grown-ready}
+use Rattle.store.proofs.Ready.{room, small, grown-ready}
 use Rattle.patterns.specs.declared.Patterns.{Patterns}
 use Rattle.patterns.proofs.Laws.{patterned-grown}
 use Rattle.run_state.specs.declared.Work.{Work}
@@ -27,3 +29,7 @@ fine-room f s w p n h = room f s (w .ch) n (h .ready)
 
 pub fine-fits : (f s : List ℕ) (w : Work) (p : Patterns) (n : ℕ) → Fine f s w p n → Fits (spentOf w)
 fine-fits f s w p n h = (h .ready .held .units, h .passes)
+
+-- the cycle's measure: a list's node is below any function's rank
+pub fine-down : (f s : List ℕ) (w : Work) (p : Patterns) (n nest t : ℕ) → Fine f s w p n → (66 - nest) * 70_000 + 65_541 ≡ t → (66 - nest) * 70_000 + n < t
+fine-down f s w p n nest t h e = omega (arith, small f s (w .ch) n (h .ready))

@@ -5,11 +5,11 @@ use mathlib.Core.List.{List}
 use mathlib.Core.Bool.{Bool, true, false}
 use lib.ListN.{getD}
 use Rattle.refusals.specs.declared.Refusal.{Refusal}
-use Rattle.meaning.specs.Tree.{Tree}
+use Rattle.meaning.specs.Tree.{Tree, atom, pair}
 use Rattle.meaning.specs.Limits.{pass-limit, height-at}
 use Rattle.meaning.specs.Meter.{W, done, stop, give, one-pass, mark-if, _>>_}
 use Rattle.meaning.specs.Operator.{is-pair}
-use Rattle.meaning.specs.Driver.{optimizers, optimize-sexp}
+use Rattle.meaning.specs.Driver.{optimizers, pass, optimize-sexp}
 use Rattle.store.specs.declared.Charges.{Charges}
 use Rattle.store.specs.Nodes.{treeAt}
 use Rattle.store.specs.Store.{Ready}
@@ -18,7 +18,7 @@ use Rattle.patterns.specs.Patterns.{Patterned}
 use Rattle.run_state.specs.declared.Outcome.{Outcome}
 use Rattle.run_state.specs.declared.Outcome.the-variants.{Same, Changed, Stopped}
 use Rattle.run_state.specs.declared.Work.{Work}
-use Rattle.run_state.specs.Work.{spentOf, with-last}
+use Rattle.run_state.specs.Work.{spentOf, with-last, Did}
 
 -- the driver one deeper than the nesting
 abbrev pub again : ℕ → Tree → W Tree
@@ -46,6 +46,41 @@ pub record Fine (f s : List ℕ) (w : Work) (p : Patterns) (n : ℕ) : Type 0 wh
 unfoldable pub kept : Bool → Tree → W Tree
 unfolding mark-if give _>>_
 kept low t = mark-if low >> give t
+
+-- nothing was done
+pub record Unmoved (s s′ : List ℕ) (w q : Work) : Type 0 where
+  pub room : s′ ≡ s
+  pub work : q ≡ w
+
+-- the input and what the body was worked into are nodes
+unfoldable pub Keepable : List ℕ → List ℕ → Work → ℕ → ℕ → Outcome → Type 0
+Keepable f s w r new Same = Ready f s (w .ch) r × Ready f s (w .ch) new
+Keepable f s w r new (Changed m) = Ready f s (w .ch) r × Ready f s (w .ch) m
+Keepable f s w r new (Stopped e) = Unit
+
+-- what the body was worked into is given back
+unfoldable pub KeptBody : List ℕ → List ℕ → List ℕ → Work → ℕ → ℕ → Bool → Work → Outcome → Type 0
+KeptBody f s s′ w r new low q Same = Did f s s′ w (treeAt f s r) (kept low (treeAt f s new) (spentOf w)) q
+KeptBody f s s′ w r new low q (Changed m) = Did f s s′ w (treeAt f s r) (kept low (treeAt f s m) (spentOf w)) q
+KeptBody f s s′ w r new low q (Stopped e) = Unmoved s s′ w q
+
+-- the input and the list that was made are nodes
+unfoldable pub Listable : List ℕ → List ℕ → Work → ℕ → Outcome → Type 0
+Listable f s w r Same = Unit
+Listable f s w r (Changed m) = Ready f s (w .ch) r × Ready f s (w .ch) m
+Listable f s w r (Stopped e) = Unit
+
+-- the list is given back where it was made
+unfoldable pub KeptList : List ℕ → List ℕ → List ℕ → Work → ℕ → Bool → Work → Outcome → Type 0
+KeptList f s s′ w r low q Same = Unmoved s s′ w q
+KeptList f s s′ w r low q (Changed m) = Did f s s′ w (treeAt f s r) (kept low (treeAt f s m) (spentOf w)) q
+KeptList f s s′ w r low q (Stopped e) = Unmoved s s′ w q
+
+-- one turn of the driver's loop: a pass on a pair
+unfoldable pub one-turn : (Tree → W Tree) → Tree → W Tree
+unfolding optimizers pass one-pass give _>>_
+one-turn again (atom b) = give (atom b)
+one-turn again (pair l r) = one-pass >> pass 1 (optimizers again) (pair l r)
 
 -- a turn begins at a pair: a pass was charged
 pub record Started (f s : List ℕ) (w w′ : Work) (n : ℕ) : Type 0 where

@@ -2,7 +2,7 @@
 use Prim.Native.Nat.{ℕ, zero, suc}
 use mathlib.Core.Path.{_≡_}
 use mathlib.Core.List.{List}
-use mathlib.Core.Bool.{Bool, true, false, not}
+use mathlib.Core.Bool.{Bool, true, false, not, _||_}
 use mathlib.Core.Option.{Option, none, some}
 use lib.ListN.{getD}
 use Rattle.refusals.specs.declared.Refusal.{Refusal}
@@ -17,6 +17,10 @@ use Rattle.run_state.specs.declared.Outcome.{Outcome}
 use Rattle.run_state.specs.declared.Outcome.the-variants.{Same, Changed, Stopped}
 use Rattle.run_state.specs.declared.Work.{Work}
 use Rattle.run_state.specs.Work.{spentOf}
+use Rattle.sexp.specs.Lists.{Items}
+use Rattle.driver_parts.specs.declared.Element.{Element}
+use Rattle.driver_parts.specs.declared.Element.the-variants.{Put, Refused}
+use Rattle.driver_parts.specs.Turns.{Unmoved}
 
 -- what sets the flag: in rule 4 (count) that an operand counts, in rule 5 that an element differs
 abbrev pub test-of : Bool → Tree → Tree → Bool
@@ -71,3 +75,37 @@ Walks f s s′ w w′ def (Stopped r) = Broken-by r def
 unfoldable pub Walked : List ℕ → List ℕ → List ℕ → Work → Out Spent (Option Tree) → Work → Type 0
 unfolding Walks
 Walked f s s′ w def w′ = Walks f s s′ w w′ def (w′ .last)
+
+-- ---- what came of the rest of a list, and of an element
+
+-- the list of the rest is a node, and so are the results
+unfoldable pub Puttable : List ℕ → List ℕ → Work → List ℕ → ℕ → Outcome → Type 0
+Puttable f s w got k Same = Unit
+Puttable f s w got k (Changed m) = Ready f s (w .ch) m × Items s (w .ch) got k
+Puttable f s w got k (Stopped e) = Unit
+
+-- the results stand before it, where it was made
+unfoldable pub PutBefore : List ℕ → List ℕ → List ℕ → Work → List ℕ → ℕ → Work → Outcome → Type 0
+unfolding Walked wrap
+PutBefore f s s′ w got k q Same = Unmoved s s′ w q
+PutBefore f s s′ w got k q (Changed m) = Walked f s s′ w (wrap f s got k (done (some (treeAt f s m)) (spentOf w))) q
+PutBefore f s s′ w got k q (Stopped e) = Unmoved s s′ w q
+
+-- what the element was worked into is a node
+unfoldable pub Stands : List ℕ → List ℕ → Work → ℕ → Outcome → Type 0
+Stands f s w h Same = Ready f s (w .ch) h
+Stands f s w h (Changed m) = Ready f s (w .ch) m
+Stands f s w h (Stopped e) = Unit
+
+-- the node that the element became, and the flag after it
+pub record Became-at (f s : List ℕ) (m n : ℕ) (count moved flag b : Bool) : Type 0 where
+  pub node : n ≡ m
+  pub sets : b ≡ (flag || sets-flag count moved (treeAt f s m))
+
+unfoldable pub Became : List ℕ → List ℕ → ℕ → Bool → Bool → Element → Outcome → Type 0
+Became f s h count flag (Put n b) Same = Became-at f s h n count false flag b
+Became f s h count flag (Put n b) (Changed m) = Became-at f s m n count true flag b
+Became f s h count flag (Put n b) (Stopped e) = ⊥
+Became f s h count flag Refused Same = ⊥
+Became f s h count flag Refused (Changed m) = ⊥
+Became f s h count flag Refused (Stopped e) = Unit

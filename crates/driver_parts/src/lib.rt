@@ -15,10 +15,16 @@ ghost use Rattle.store.specs.Store.{Ready};
 ghost use Rattle.sexp.specs.Lists.{Items};
 ghost use Rattle.patterns.specs.Patterns.{Patterned};
 ghost use Rattle.run_state.specs.Work.{spentOf, with-last, Did};
-ghost use Rattle.driver_parts.specs.Turns.{optimizer, Simple, kept, Begun, outcome-of};
-ghost use Rattle.driver_parts.specs.Walk.{made-list, sets-flag, wrap, Walked};
+ghost use Rattle.driver_parts.specs.Turns.{optimizer, Simple, kept, Keepable, Listable, KeptBody, KeptList, Begun, outcome-of};
+ghost use Rattle.driver_parts.specs.Walk.{made-list, sets-flag, wrap, Walked, Puttable, PutBefore, Stands, Became};
 
 // ---- the walk over a list
+
+// What became of an element: its node and the flag after it, or a refusal.
+pub enum Element {
+    Put(u16, bool),
+    Refused,
+}
 
 // An operand that `non_constant_count` counts: a pair headed by an atom other than the byte 1.
 fn non_constant_node<'a>(form: &'a [u8], room: &'a [u8], n: usize) -> bool
@@ -35,7 +41,7 @@ fn non_constant_node<'a>(form: &'a [u8], room: &'a [u8], n: usize) -> bool
 }
 
 // The flag after an element that was worked into n, and moved or not: rule 4 (count) asks what it became, rule 5 whether it differs.
-pub fn flag_after<'a>(
+fn flag_after<'a>(
     form: &'a [u8],
     room: &'a [u8],
     n: usize,
@@ -84,10 +90,43 @@ pub fn build(
     run_state::put(w, m)
 }
 
+// The first k of got before what came of the rest of the list, as w says.
+pub fn put_before(form: &[u8], room: &mut [u8], w: Work, got: [u16; 64], k: usize) -> Work
+    requires { ⌜ Puttable (now form) (now room) w got k (w .last) ⌝ }
+    ensures { λ r. ⌜ PutBefore (now (form .entry)) (now (room .entry)) (now (room .exit)) w got k r (w .last) ⌝ }
+{
+    let o = w.last;
+    match o {
+        Outcome::Changed(m) => build(form, room, w, got, k, m, true),
+        Outcome::Same => w,
+        Outcome::Stopped(_) => w,
+    }
+}
+
+// What became of the element h, as w says, and the flag after it.
+pub fn worked_into<'a>(
+    form: &'a [u8],
+    room: &'a [u8],
+    w: Work,
+    h: usize,
+    count: bool,
+    flag: bool,
+) -> Element
+    requires { ⌜ Stands (now form) (now room) w h (w .last) ⌝ }
+    ensures { λ r. ⌜ Became (now (form .entry)) (now (room .entry)) h count flag r (w .last) ⌝ }
+{
+    let o = w.last;
+    match o {
+        Outcome::Changed(m) => Element::Put(m as u16, flag_after(form, room, m, count, true, flag)),
+        Outcome::Same => Element::Put(h as u16, flag_after(form, room, h, count, false, flag)),
+        Outcome::Stopped(_) => Element::Refused,
+    }
+}
+
 // ---- rule 4
 
 // The changed body m of r is given back: the mark goes by that, even where m equals r.
-pub fn keep(form: &[u8], room: &mut [u8], w: Work, r: usize, m: usize, low: bool) -> Work
+fn keep(form: &[u8], room: &mut [u8], w: Work, r: usize, m: usize, low: bool) -> Work
     requires { ⌜ Ready (now form) (now room) (w .ch) r × Ready (now form) (now room) (w .ch) m ⌝ }
     ensures { λ a. ⌜ Did (now (form .entry)) (now (room .entry)) (now (room .exit)) w (tree-in form room r) (kept low (tree-in form room m) (spentOf w)) a ⌝ }
 {
@@ -97,6 +136,32 @@ pub fn keep(form: &[u8], room: &mut [u8], w: Work, r: usize, m: usize, low: bool
         return run_state::with(k, Outcome::Same);
     }
     run_state::with(k, Outcome::Changed(m))
+}
+
+// The body `new` was worked into what w says: what that is of the input r.
+pub fn keep_body(form: &[u8], room: &mut [u8], w: Work, r: usize, new: usize, low: bool) -> Work
+    requires { ⌜ Keepable (now form) (now room) w r new (w .last) ⌝ }
+    ensures { λ q. ⌜ KeptBody (now (form .entry)) (now (room .entry)) (now (room .exit)) w r new low q (w .last) ⌝ }
+{
+    let o = w.last;
+    match o {
+        Outcome::Stopped(_) => w,
+        Outcome::Same => keep(form, room, w, r, new, low),
+        Outcome::Changed(m) => keep(form, room, w, r, m, low),
+    }
+}
+
+// The body's list was walked over, as w says: what that is of the input r.
+pub fn keep_list(form: &[u8], room: &mut [u8], w: Work, r: usize, low: bool) -> Work
+    requires { ⌜ Listable (now form) (now room) w r (w .last) ⌝ }
+    ensures { λ q. ⌜ KeptList (now (form .entry)) (now (room .entry)) (now (room .exit)) w r low q (w .last) ⌝ }
+{
+    let o = w.last;
+    match o {
+        Outcome::Stopped(_) => w,
+        Outcome::Same => w,
+        Outcome::Changed(m) => keep(form, room, w, r, m, low),
+    }
 }
 
 // ---- the rules that do not call the driver

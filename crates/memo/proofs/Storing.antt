@@ -3,7 +3,7 @@ use mathlib.Core.Path.{_≡_, refl, ap}
 use mathlib.Core.List.{List}
 use Prim.Native.Nat.{ℕ, _+_, _<_}
 use native.Mathlib.Omega.{arith}
-use lib.ListN.{set}
+use lib.ListN.{length, set}
 use Rattle.meaning.specs.Limits.{height-at}
 use Rattle.meaning.specs.Meter.{Spent}
 use Rattle.meaning.proofs.CostRun.{more}
@@ -16,7 +16,7 @@ use Rattle.run_state.specs.declared.Work.{Work}
 use Rattle.run_state.specs.declared.Entry.{Entry}
 use Rattle.run_state.specs.declared.State.{State}
 use Rattle.run_state.specs.Work.{spentOf}
-use Rattle.run_state.specs.State.{Sound, Valid}
+use Rattle.run_state.specs.State.{recordOf, Sound, Valid}
 use Rattle.run_state.proofs.Entries.{sounds-more}
 use Rattle.memo.specs.Memo.{Ended, Small, entry-of, Kept}
 
@@ -43,8 +43,8 @@ module _ (f s : List ℕ) (b a : Work) (n r nest : ℕ) (h : Ended f s b a n r n
         nests = h .nests;
       }
 
-  sound : Sound f s (a .ch) (a .mark) (entry-of b a n r nest)
-  sound = record {
+  sound : (print : ℕ) → Sound f s (a .ch) (a .mark) (entry-of b a n r nest print)
+  sound print = record {
     expr = h .expr;
     result = h .result;
     cost = entry .0;
@@ -55,9 +55,9 @@ module _ (f s : List ℕ) (b a : Work) (n r nest : ℕ) (h : Ended f s b a n r n
     differs = h .differs;
   }
 
-pub kept-so : (f s : List ℕ) (st : State) → Valid f s st → Kept f s st st
-kept-so f s st v = record { work = refl; valid = v }
+pub kept-so : (f s : List ℕ) (row : List (List ℕ)) (st : State) → Valid f s row st → Kept f s row st st
+kept-so f s row st v = record { work = refl; valid = v }
 
-pub kept-more : (f s : List ℕ) (st : State) (b : Work) (n r nest : ℕ) (e : Entry) → Valid f s st → Ended f s b (st .w) n r nest → e ≡ entry-of b (st .w) n r nest → st .used < 256
-    → Kept f s st (record { w = st .w; used = st .used + 1; memo = set (st .memo) (st .used) e })
-kept-more f s st b n r nest e v h ee l = record { work = refl; valid = sounds-more e v l (rw ee (sound f s b (st .w) n r nest h)) }
+pub kept-more : (f s : List ℕ) (row row′ : List (List ℕ)) (st : State) (b : Work) (n r nest print : ℕ) (e : Entry) → row′ ≡ set row (st .used) (recordOf e) → Valid f s row st → Ended f s b (st .w) n r nest
+    → e ≡ entry-of b (st .w) n r nest print → st .used < length row → Kept f s row′ st (record { w = st .w; used = st .used + 1 })
+kept-more f s row row′ st b n r nest print e h v d ee l = record { work = refl; valid = rw h (sounds-more e v l (rw ee (sound f s b (st .w) n r nest d print))) }

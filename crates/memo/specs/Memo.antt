@@ -3,7 +3,6 @@ use Prim.Native.Nat.{ℕ, _+_, _-_, _<_, _≤_}
 use mathlib.Core.Path.{_≡_}
 use mathlib.Core.List.{List}
 use mathlib.Core.Bool.{true, false}
-use lib.ListN.{getD}
 use Rattle.meaning.specs.Tree.{equal-to}
 use Rattle.meaning.specs.Limits.{height-at}
 use Rattle.meaning.specs.Meter.{done}
@@ -16,7 +15,7 @@ use Rattle.run_state.specs.declared.Work.{Work}
 use Rattle.run_state.specs.declared.Entry.{Entry}
 use Rattle.run_state.specs.declared.State.{State}
 use Rattle.run_state.specs.Work.{spentOf, Did}
-use Rattle.run_state.specs.State.{blank, Valid}
+use Rattle.run_state.specs.State.{entryAt, Valid}
 use Rattle.memo.specs.declared.Verdict.{Verdict}
 use Rattle.memo.specs.declared.Answer.{Answer}
 use Rattle.memo.specs.declared.Answer.the-variants.{Known, Unknown}
@@ -35,8 +34,8 @@ pub record Matches (f s : List ℕ) (n nest : ℕ) (e : Entry) : Type 0 where
   pub height : e .height + nest ≤ 65
 
 -- the place of an entry that matches, or no entry's place
-pub record Found (f s : List ℕ) (n nest used : ℕ) (memo : List Entry) (i : ℕ) : Type 0 where
-  pub entry : i < used → Matches f s n nest (getD memo i blank)
+pub record Found (f s : List ℕ) (n nest used : ℕ) (row : List (List ℕ)) (i : ℕ) : Type 0 where
+  pub entry : i < used → Matches f s n nest (entryAt row i)
 
 -- a hit is the call: its result, its charges, its mark
 pub record Hit (f s : List ℕ) (w w′ : Work) (n nest : ℕ) : Type 0 where
@@ -69,10 +68,10 @@ pub record Small (b a : Work) (n r nest : ℕ) : Type 0 where
   pub units-most : a .ch .units ≤ 32768
   pub nests : nest ≤ 65
 
-abbrev pub entry-of : Work → Work → ℕ → ℕ → ℕ → Entry
-entry-of b a n r nest = record { expr = n; result = r; passes = a .passes - b .passes; units = a .ch .units - b .ch .units; height = height-at nest }
+abbrev pub entry-of : Work → Work → ℕ → ℕ → ℕ → ℕ → Entry
+entry-of b a n r nest print = record { expr = n; result = r; passes = a .passes - b .passes; units = a .ch .units - b .ch .units; height = height-at nest; print = print }
 
 -- the state after storing: the same work, and a sound memo
-pub record Kept (f s : List ℕ) (st q : State) : Type 0 where
+pub record Kept (f s : List ℕ) (row : List (List ℕ)) (st q : State) : Type 0 where
   pub work : q .w ≡ st .w
-  pub valid : Valid f s q
+  pub valid : Valid f s row q

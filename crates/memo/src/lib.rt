@@ -1,16 +1,19 @@
 // The memo: finished expressions, found by fingerprint and compared by structure, and what a hit charges.
 use run_state::Entry;
 use run_state::Outcome;
+use run_state::Record;
 use run_state::State;
 use run_state::Work;
 use sexp::Compared;
 use store::Charges;
 ghost use mathlib.Core.Path.{_≡_};
-ghost use Prim.Native.Nat.{_<_, _≤_};
+ghost use mathlib.Core.List.{[]};
+ghost use Prim.Native.Nat.{_%_, _<_, _≤_};
+ghost use lib.ListN.{length, getD, set};
 ghost use Rattle.meaning.specs.Limits.{pass-limit};
 ghost use Rattle.store.specs.Cells.{Room};
 ghost use Rattle.store.specs.Store.{Ready};
-ghost use Rattle.run_state.specs.State.{Sound, Sounds, Valid};
+ghost use Rattle.run_state.specs.State.{entryOf, recordOf, Sound, Sounds, Valid};
 ghost use Rattle.memo.specs.Memo.{AlikeOk, Matches, Found, AnswerOk, Ended, Small, entry-of, Kept};
 
 // What the memo says of a call: the work after it, or nothing.
@@ -36,10 +39,43 @@ fn wide(x: u16) -> usize
     x as usize
 }
 
-fn wide_height(x: u8) -> usize
-    ensures { λ r. ⌜ (r ≡ x) × (r < 256) ⌝ }
+// ---- the row
+
+fn entry_from(a: Record) -> Entry
+    ensures { λ e. ⌜ e ≡ entryOf a ⌝ }
 {
-    x as usize
+    Entry {
+        expr: a[0],
+        result: a[1],
+        passes: a[2],
+        units: a[3],
+        height: a[4],
+        print: a[5],
+    }
+}
+
+fn record_from(e: Entry) -> Record
+    ensures { λ a. ⌜ a ≡ recordOf e ⌝ }
+{
+    [e.expr, e.result, e.passes, e.units, e.height, e.print]
+}
+
+// Reads the record at i.
+fn entry_at(row: &[Record], i: usize) -> Entry
+    requires { ⌜ i < length (now row) ⌝ }
+    ensures { λ e. ⌜ e ≡ entryOf (getD (now (row .entry)) i []) ⌝ }
+{
+    let a = row[i];
+    entry_from(a)
+}
+
+// Stores the record at i.
+fn put_entry(row: &mut [Record], i: usize, e: Entry)
+    requires { ⌜ i < length (now row) ⌝ }
+    ensures { λ _. ⌜ now (row .exit) ≡ set (now (row .entry)) i (recordOf e) ⌝ }
+{
+    let a = record_from(e);
+    row[i] = a;
 }
 
 // ---- comparison
@@ -101,33 +137,43 @@ fn alike<'a>(
 
 // ---- a lookup
 
+// What an entry holds of a fingerprint: a filter before the expression's node is looked at.
+fn low_print(key: u64) -> u16
+    ensures { λ r. ⌜ r ≡ key % 65536 ⌝ }
+{
+    (key % 65536) as u16
+}
+
 // The place of an entry whose expression has the tree of n and whose height fits at `nest`; `used` where none is found.
 fn find<'a>(
     form: &'a [u8],
     room: &'a [u8],
+    row: &'a [Record],
     w: Work,
-    memo: [Entry; 256],
     used: usize,
     n: usize,
     nest: usize,
 ) -> usize
-    requires { ⌜ Ready (now form) (now room) (w .ch) n × Sounds (now form) (now room) (w .ch) (w .mark) used memo × (nest < 65) ⌝ }
-    ensures { λ r. ⌜ Found (now (form .entry)) (now (room .entry)) n nest used memo r ⌝ }
+    requires { ⌜ Ready (now form) (now room) (w .ch) n × Sounds (now form) (now room) (w .ch) (w .mark) used (now row) × (nest < 65) ⌝ }
+    ensures { λ r. ⌜ Found (now (form .entry)) (now (room .entry)) n nest used (now (row .entry)) r ⌝ }
 {
     let ch = w.ch;
     let key = store::print_node(form, room, ch, n);
+    let low = low_print(key);
     let mut left: usize = LOOKS;
     let mut i: usize = 0;
     while i < used {
-        let e = memo[i];
-        let x = wide(e.expr);
-        if wide_height(e.height) + nest <= 65 {
-            if store::print_node(form, room, ch, x) == key {
-                let v = alike(form, room, x, n, DEEP, left);
-                if v.same {
-                    return i;
+        let e = entry_at(row, i);
+        if e.print == low {
+            let x = wide(e.expr);
+            if wide(e.height) + nest <= 65 {
+                if store::print_node(form, room, ch, x) == key {
+                    let v = alike(form, room, x, n, DEEP, left);
+                    if v.same {
+                        return i;
+                    }
+                    left = v.left;
                 }
-                left = v.left;
             }
         }
         i += 1;
@@ -175,29 +221,29 @@ fn charged<'a>(form: &'a [u8], room: &'a [u8], w: Work, e: Entry, n: usize, nest
 pub fn lookup<'a>(
     form: &'a [u8],
     room: &'a [u8],
+    row: &'a [Record],
     w: Work,
-    memo: [Entry; 256],
     used: usize,
     n: usize,
     nest: usize,
 ) -> Answer
-    requires { ⌜ Ready (now form) (now room) (w .ch) n × Sounds (now form) (now room) (w .ch) (w .mark) used memo × (nest < 65) × (w .passes ≤ pass-limit) ⌝ }
+    requires { ⌜ Ready (now form) (now room) (w .ch) n × Sounds (now form) (now room) (w .ch) (w .mark) used (now row) × (nest < 65) × (w .passes ≤ pass-limit) ⌝ }
     ensures { λ r. ⌜ AnswerOk (now (form .entry)) (now (room .entry)) w n nest r ⌝ }
 {
-    let i = find(form, room, w, memo, used, n, nest);
+    let i = find(form, room, row, w, used, n, nest);
     if used <= i {
         return Answer::Unknown;
     }
-    let e = memo[i];
+    let e = entry_at(row, i);
     charged(form, room, w, e, n, nest)
 }
 
 // ---- storing
 
 // The entry of a call on n at nesting `nest` that began with b spent and ended at r with a spent.
-fn entry_of(b: Work, a: Work, n: usize, r: usize, nest: usize) -> Entry
+fn entry_of(b: Work, a: Work, n: usize, r: usize, nest: usize, print: u16) -> Entry
     requires { ⌜ Small b a n r nest ⌝ }
-    ensures { λ e. ⌜ e ≡ entry-of b a n r nest ⌝ }
+    ensures { λ e. ⌜ e ≡ entry-of b a n r nest print ⌝ }
 {
     let c = b.ch;
     let d = a.ch;
@@ -206,38 +252,41 @@ fn entry_of(b: Work, a: Work, n: usize, r: usize, nest: usize) -> Entry
         result: r as u16,
         passes: (a.passes - b.passes) as u16,
         units: (d.units - c.units) as u16,
-        height: (65 - nest) as u8,
+        height: (65 - nest) as u16,
+        print: print,
     }
 }
 
-// Stores a call that ended, unless the memo is full. A call on an atom, which charged no pass, needs no entry; and where all passes are
+// Stores a call that ended, unless the row is full. A call on an atom, which charged no pass, needs no entry; and where all passes are
 // spent, none could be used.
 pub fn store<'a>(
     form: &'a [u8],
     room: &'a [u8],
+    row: &mut [Record],
     st: State,
     b: Work,
     n: usize,
     r: usize,
     nest: usize,
 ) -> State
-    requires { ⌜ Valid (now form) (now room) st × Ended (now form) (now room) b (st .w) n r nest ⌝ }
-    ensures { λ q. ⌜ Kept (now (form .entry)) (now (room .entry)) st q ⌝ }
+    requires { ⌜ Valid (now form) (now room) (now row) st × Ended (now form) (now room) b (st .w) n r nest ⌝ }
+    ensures { λ q. ⌜ Kept (now (form .entry)) (now (room .entry)) (now (row .exit)) st q ⌝ }
 {
-    let mut s = st;
-    let k = s.used;
-    let a = s.w;
-    if 256 <= k {
-        return s;
+    let k = st.used;
+    let a = st.w;
+    if row.len() <= k {
+        return st;
     }
     if a.passes == b.passes {
-        return s;
+        return st;
     }
     if 65536 <= a.passes {
-        return s;
+        return st;
     }
-    let e = entry_of(b, a, n, r, nest);
-    s.memo[k] = e;
-    s.used = k + 1;
-    s
+    let next = k + 1;
+    let ch = a.ch;
+    let key = store::print_node(form, room, ch, n);
+    let e = entry_of(b, a, n, r, nest, low_print(key));
+    put_entry(row, k, e);
+    State { w: a, used: next }
 }

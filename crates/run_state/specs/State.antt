@@ -1,7 +1,7 @@
--- What the memo's entries say, and the memo of a run's state.
+-- The memo: its records in a row, what its entries say, and the memo of a run's state.
 use Prim.Native.Nat.{ℕ, _<_, _≤_}
 use mathlib.Core.Path.{_≡_}
-use mathlib.Core.List.{List}
+use mathlib.Core.List.{List, [], _∷_}
 use mathlib.Core.Bool.{Bool, true, false}
 use lib.ListN.{getD, length}
 use Rattle.meaning.specs.Tree.{equal-to}
@@ -17,8 +17,16 @@ use Rattle.run_state.specs.declared.State.{State}
 
 -- ---- entries
 
-abbrev pub blank : Entry
-blank = record { expr = 0; result = 0; passes = 0; units = 0; height = 0 }
+-- an entry's numbers in the row, and back
+abbrev pub entryOf : List ℕ → Entry
+entryOf a = record { expr = getD a 0 0; result = getD a 1 0; passes = getD a 2 0; units = getD a 3 0; height = getD a 4 0; print = getD a 5 0 }
+
+abbrev pub recordOf : Entry → List ℕ
+recordOf e = e .expr ∷ e .result ∷ e .passes ∷ e .units ∷ e .height ∷ e .print ∷ []
+
+-- the entry at a place of the row
+abbrev pub entryAt : List (List ℕ) → ℕ → Entry
+entryAt row i = entryOf (getD row i [])
 
 -- an entry that may be answered from: its work would end the same wherever its cost and its height fit
 pub record Sound (f s : List ℕ) (c : Charges) (mark : Bool) (e : Entry) : Type 0 where
@@ -34,12 +42,12 @@ pub record Sound (f s : List ℕ) (c : Charges) (mark : Bool) (e : Entry) : Type
   pub differs : (e .expr ≡ e .result → ⊥) → equal-to (treeAt f s (e .expr)) (treeAt f s (e .result)) ≡ false
 
 -- every entry in use is sound (data, not a record: `search` builds records)
-pub data Sounds (f s : List ℕ) (c : Charges) (mark : Bool) (used : ℕ) (memo : List Entry) : Type 0 where
-  sounds : length memo ≡ 256 → used ≤ 256 → ((i : ℕ) → i < used → Sound f s c mark (getD memo i blank)) → Sounds f s c mark used memo
+pub data Sounds (f s : List ℕ) (c : Charges) (mark : Bool) (used : ℕ) (row : List (List ℕ)) : Type 0 where
+  sounds : used ≤ length row → ((i : ℕ) → i < used → Sound f s c mark (entryAt row i)) → Sounds f s c mark used row
 
--- the memo of a state
-abbrev pub Valid : List ℕ → List ℕ → State → Type 0
-Valid f s st = Sounds f s (st .w .ch) (st .w .mark) (st .used) (st .memo)
+-- the memo of a state, which stands in the row
+abbrev pub Valid : List ℕ → List ℕ → List (List ℕ) → State → Type 0
+Valid f s row st = Sounds f s (st .w .ch) (st .w .mark) (st .used) row
 
 unfoldable pub Unless-stopped : Outcome → Type 0 → Type 0
 Unless-stopped Same a = a
@@ -47,6 +55,6 @@ Unless-stopped (Changed m) a = a
 Unless-stopped (Stopped r) a = Unit
 
 -- the memo after work: nothing is said after a refusal
-unfoldable pub Still : List ℕ → List ℕ → State → Type 0
+unfoldable pub Still : List ℕ → List ℕ → List (List ℕ) → State → Type 0
 unfolding Unless-stopped
-Still f s st = Unless-stopped (st .w .last) (Valid f s st)
+Still f s row st = Unless-stopped (st .w .last) (Valid f s row st)

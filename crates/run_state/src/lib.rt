@@ -1,4 +1,4 @@
-// A run's state: what it has spent and what its last piece of work said, and the memo of finished expressions.
+// A run's state: what it has spent and what its last piece of work said, and how far its memo is filled.
 use refusals::Refusal;
 use store::Charges;
 use store::Made;
@@ -20,21 +20,24 @@ pub struct Work {
     pub last: Outcome,
 }
 
-// A finished expression: 10 bytes. Its fingerprint stands in the expression's node. Where the work gave the tree back, the result is
-// the expression's own node. The height is a count of nested calls that is known to be enough, not the least one.
+// A finished expression. `print` is what 16 bits hold of its fingerprint, which stands whole in the expression's node. Where the work gave
+// the tree back, the result is the expression's own node. The height is a count of nested calls that is known to be enough, not the least one.
 pub struct Entry {
     pub expr: u16,
     pub result: u16,
     pub passes: u16,
     pub units: u16,
-    pub height: u8,
+    pub height: u16,
+    pub print: u16,
 }
 
-// What a run has spent, and the memo: its first `used` entries.
+// An entry's numbers, 12 bytes, as they stand in the lent row.
+pub type Record = [u16; 6];
+
+// What a run has spent, and how many records of the row are in use.
 pub struct State {
     pub w: Work,
     pub used: usize,
-    pub memo: [Entry; 256],
 }
 
 // The same work, which now says o.

@@ -7,10 +7,10 @@ use Rattle.memo.proofs.find.Statement.{statement}
 use Rattle.memo.proofs.find.Tie as tie
 
 abbrev Inv-loop : tie.InvT-loop
-Inv-loop form room used n nest memo ch key left₀ i₀ left i = i ≤ used
+Inv-loop form room row used n nest ch key low left₀ i₀ left i = i ≤ used
 
 abbrev μ-loop : tie.MeasureT-loop
-μ-loop form room used n nest memo ch key left₀ i₀ left i = used - i
+μ-loop form room row used n nest ch key low left₀ i₀ left i = used - i
 
 pub find-spec : {M : Type 1} → statement M
 find-spec =
@@ -19,11 +19,11 @@ find-spec =
     Inv-loop
     μ-loop
     (λ c κs. search needs)  -- print-node-requires
+    (λ c κs. search needs)  -- low-print-requires
     (λ c. search needs)  -- loop-holds
-    (λ c. search entries.entry-place)  -- mul-e
-    (λ c. search entries.entry-few)  -- array-copy-out-e
+    (λ c κs. search entries.entry-few)  -- entry-at-requires
     (λ c κs. search needs)  -- wide-requires
-    (λ c κs. search needs)  -- wide-height-requires
+    (λ c κs. search needs)  -- wide-requires-2
     (λ c. search needs)  -- add-if1
     (λ c κs. search entries.entry-ready)  -- print-node-requires-2
     (λ c κs. (search entries.entry-room, search room))  -- alike-requires

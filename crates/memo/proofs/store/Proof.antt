@@ -11,8 +11,10 @@ store-spec =
     (λ c. search storing.kept-so)  -- returns
     (λ c. search storing.kept-so)  -- returns-2
     (λ c. search storing.kept-so)  -- returns-3
+    (λ c. search needs)  -- add-next
+    (λ c κs. search needs)  -- print-node-requires
+    (λ c κs. search needs)  -- low-print-requires
     (λ c κs. search storing.store-small)  -- entry-of-requires
-    (λ c. search needs)  -- mul-e
-    (λ c. search needs)  -- element-set-from-e
-    (λ c. search needs)  -- add-s
+    (λ c κs. search needs)  -- put-entry-requires
+    (λ c. search needs)  -- same-length
     (λ c. search storing.kept-more))  -- returns-4

@@ -9,8 +9,8 @@ use Rattle.store.specs.Store.{Ready}
 use Rattle.run_state.specs.declared.Outcome.the-variants.{Same, Changed, Stopped}
 use Rattle.run_state.specs.declared.Work.{Work}
 use Rattle.run_state.specs.Work.{spentOf, Did}
 use Rattle.driver_parts.specs.Turns.{kept}
-use Rattle.planning.specs.Plans.{Keepable, KeptBody, Listable, KeptList}
+use Rattle.driver_parts.specs.Turns.{Keepable, KeptBody, Listable, KeptList}
 
 module _ (f s : List ℕ) (w : Work) (r new : ℕ) where
   module _ (k : Keepable f s w r new (w .last)) where
