@@ -1,4 +1,4 @@
--- call and eval_node: each return, and what each call asks. Assumes nothing.
+-- call, step and eval_node: each return, and what each call asks. Assumes nothing.
 use Prim.Native.Nat.{ℕ, _+_, _-_, _*_, _≤_, _<_}
 use mathlib.Core.Path.{_≡_, refl, sym, _∙_, ap}
 use mathlib.Core.List.{List, [], _∷_}
@@ -12,7 +12,7 @@ use Rattle.refusals.specs.declared.Refusal.{Refusal}
 use Rattle.refusals.specs.declared.Refusal.the-variants.{Fails, NoOperator, StepsOut}
 use Rattle.meaning.specs.Tree.{Tree, atom, pair, nil, proper-list}
 use Rattle.meaning.specs.Number.{number, lookup}
-use Rattle.meaning.specs.Meter.{Out, done, stop, Steps, _>>=_, give, refuse}
+use Rattle.meaning.specs.Meter.{Out, done, Steps, _>>=_, give, refuse}
 use Rattle.meaning.specs.Operator.{Op, apply, choose, cons, first, rest, listp, raise, same, takes, Made, one, two, three, perform}
 use Rattle.meaning.specs.Operator.{Head as Operator·Head}
 use Rattle.meaning.specs.Evaluate.{RunnerB, foundB, each-valueB, finishB, callB, operateB, stepB, evaluate}
@@ -35,9 +35,10 @@ use Rattle.evaluator.specs.declared.Args.the-variants.{All}
 use Rattle.evaluator.specs.declared.Args.the-variants.{Refused as Args·Refused}
 use Rattle.evaluator.specs.declared.Performed.{Performed}
 use Rattle.evaluator.specs.declared.Performed.the-variants.{Done, Runs}
+use Rattle.evaluator.specs.declared.Performed.the-variants.{Refused as Performed·Refused}
 use Rattle.evaluator.specs.Heads.{op-of, head-as, head-tree, accepted, items, args-of}
-use Rattle.evaluator.specs.Values.{state, stopped, ValuedOk, Nodes, AllGiven, ArgsOk, Asks, PerformedOk}
-use Rattle.evaluator.proofs.Outcomes.{bind-stopped, relabel, stays, stops, since}
+use Rattle.evaluator.specs.Values.{state, stopped, ValuedOk, Nodes, AllGiven, ArgsOk, Asks, PerformedOk, answered}
+use Rattle.evaluator.proofs.Outcomes.{bind-stopped, stays, stops, answers, comes-since}
 use Rattle.evaluator.proofs.Recursion.{evaluate-on, evaluate-out}
 use Rattle.evaluator.proofs.Heads.{items-are}
 use Rattle.evaluator.proofs.Each.{each-many}
@@ -125,27 +126,20 @@ module _ (run : RunnerB) (o : Op) (env : Tree) where
 
 -- ---- call
 
-module _ (f s s′ : List ℕ) (m : Meter) (x z : ℕ) (k : Made) (p : Performed) (ep : p ≡ Runs x z) (g : PerformedOk f s s′ m k p) where
-  asks : Asks f s s′ m x z k
-  unfolding PerformedOk
-  asks = rw ep at g
-
-  pub call-program : Ready f s′ (m .ch) x
-  call-program = rw (asks .still) (asks .program)
-
-  pub call-environment : Ready f s′ (m .ch) z
-  call-environment = rw (asks .still) (asks .environment)
-
 module _ (f s : List ℕ) (m : Meter) (o : Operator) (list env : ℕ) (b : Bool) (eb : b ≡ accepted (op-of o) (proper-list (treeAt f s list))) where
-  pub call-refused : (s′ : List ℕ) → not b ≡ true → ValuedOk f s s′ m (callB evaluate (op-of o) (proper-list (treeAt f s list)) (treeAt f s env) (state m)) (Refused Fails)
-  call-refused s′ n = stops f s s′ m _ Fails (not-accepted evaluate (op-of o) (treeAt f s env) (proper-list (treeAt f s list)) (state m) (sym eb ∙ not-true b n))
+  abbrev called : Out Steps Tree
+  called = callB evaluate (op-of o) (proper-list (treeAt f s list)) (treeAt f s env) (state m)
+
+  pub call-refused : (s′ : List ℕ) → not b ≡ true → PerformedOk f s s′ m called (Performed·Refused Fails)
+  unfolding PerformedOk
+  call-refused s′ n = not-accepted evaluate (op-of o) (treeAt f s env) (proper-list (treeAt f s list)) (state m) (sym eb ∙ not-true b n)
 
   module _ (y : not b ≡ false) (s₁ : List ℕ) (a : Args) (h : ArgsOk f s s₁ m (each-valueB evaluate (items (treeAt f s list)) (treeAt f s env) (state m)) a) where
-    pub call-stopped : (r : Refusal) → a ≡ Args·Refused r → ValuedOk f s s₁ m (callB evaluate (op-of o) (proper-list (treeAt f s list)) (treeAt f s env) (state m)) (Refused r)
-    unfolding ArgsOk
+    pub call-stopped : (r : Refusal) → a ≡ Args·Refused r → PerformedOk f s s₁ m called (Performed·Refused r)
+    unfolding ArgsOk PerformedOk
     call-stopped r ea =
         let z : stopped (each-valueB evaluate (items (treeAt f s list)) (treeAt f s env) (state m)) ≡ some r = rw ea at h in
-        stops f s s₁ m _ r (call-stops evaluate (op-of o) (treeAt f s env) (treeAt f s list) (state m) r (sym eb ∙ not-false b y) z)
+        call-stops evaluate (op-of o) (treeAt f s env) (treeAt f s list) (state m) r (sym eb ∙ not-false b y) z
 
     module _ (v : Values) (m₁ : Meter) (ea : a ≡ All v m₁) where
       all : AllGiven f s s₁ m m₁ v (each-valueB evaluate (items (treeAt f s list)) (treeAt f s env) (state m))
@@ -155,33 +149,62 @@ module _ (f s : List ℕ) (m : Meter) (o : Operator) (list env : ℕ) (b : Bool)
       pub call-nodes : Nodes f s₁ (m₁ .ch) v
       call-nodes = all .nodes
 
-      pub call-later : (t : ℕ) → 3 * (4097 - m .steps) + 2 ≡ t → 3 * (4097 - m₁ .steps) < t
-      call-later t e = let l : m .steps ≤ m₁ .steps = all .later in omega arith
-
       abbrev made : Made
       made = perform (op-of o) (args-of (op-of o) (treeAt f s₁ (v .a)) (treeAt f s₁ (v .b)) (treeAt f s₁ (v .c)))
 
-      finishes : callB evaluate (op-of o) (proper-list (treeAt f s list)) (treeAt f s env) (state m) ≡ finishB evaluate made (state m₁)
+      finishes : called ≡ finishB evaluate made (state m₁)
       finishes =
           call-given evaluate (op-of o) (treeAt f s env) (treeAt f s list) (state m) (state m₁) (all .values) (sym eb ∙ not-false b y) (all .value)
           ∙ rw (all .stand .first, all .stand .second, all .stand .third)
 
-      module _ (s₂ : List ℕ) (p : Performed) (g : PerformedOk f s₁ s₂ m₁ made p) where
-        pub call-done : (w : Valued) → p ≡ Done w → ValuedOk f s s₂ m (callB evaluate (op-of o) (proper-list (treeAt f s list)) (treeAt f s env) (state m)) w
-        unfolding PerformedOk
-        call-done w ep = since f s s₁ s₂ m m₁ _ w (relabel f s₁ s₂ m₁ _ w _ (rw ep at g) (sym finishes)) (all .grown) (all .free)
+      pub call-performs : (s₂ : List ℕ) (p : Performed) → PerformedOk f s₁ s₂ m₁ (finishB evaluate made (state m₁)) p → PerformedOk f s s₂ m called p
+      call-performs s₂ p g = comes-since f s s₁ s₂ m m₁ _ called p g (sym finishes) (all .grown) (all .free) (all .later)
 
-        module _ (x z : ℕ) (ep : p ≡ Runs x z) where
-          asked : Asks f s₁ s₂ m₁ x z made
-          asked = asks f s₁ s₂ m₁ x z made p ep g
+-- ---- step
 
-          pub call-ran : (s₃ : List ℕ) (w : Valued) → ValuedOk f s₂ s₃ m₁ (evaluate (treeAt f s₂ x) (treeAt f s₂ z) (state m₁)) w
-              → ValuedOk f s s₃ m (callB evaluate (op-of o) (proper-list (treeAt f s list)) (treeAt f s env) (state m)) w
-          unfolding finishB
-          call-ran s₃ w k =
-              let k′ : ValuedOk f s₁ s₃ m₁ (evaluate (treeAt f s₁ x) (treeAt f s₁ z) (state m₁)) w = rw (asked .still) at k in
-              let w′ : evaluate (treeAt f s₁ x) (treeAt f s₁ z) (state m₁) ≡ finishB evaluate made (state m₁) = rw (asked .made) in
-              since f s s₁ s₃ m m₁ _ w (relabel f s₁ s₃ m₁ _ w _ k′ (w′ ∙ sym finishes)) (all .grown) (all .free)
+step-pair : (run : RunnerB) (t r env : Tree) (s : Steps) → operateB run (head-tree t) r env s ≡ stepB run (pair t r) env s
+unfolding stepB head-tree operateB
+step-pair run (atom b) r env s = refl
+step-pair run (pair x y) r env s = refl
+
+pub step-atom : (s : List ℕ) (n : ℕ) (q : Cell) → q ≡ cellAt s n → q ≡ Atom → cellAt s n ≡ Atom
+step-atom s n q eq ep = sym eq ∙ ep
+
+module _ (f s : List ℕ) (m : Meter) (e env : ℕ) (q : Cell) where
+  abbrev outcome : Out Steps Tree
+  outcome = stepB evaluate (treeAt f s e) (treeAt f s env) (state m)
+
+  pub step-path : (a : Valued) (p : Performed) → ValuedOk f s s m (foundB (lookup (number (bytesAt f s e)) (treeAt f s env)) (state m)) a → p ≡ answered a → q ≡ cellAt s e → q ≡ Atom → PerformedOk f s s m outcome p
+  unfolding stepB
+  step-path a p h ea eq ep = rw (look-atom f s e q eq ep) (answers f s s m _ a p h ea)
+
+  module _ (o r : ℕ) (ep : q ≡ Pair o r) (eq : q ≡ cellAt s e) (h : Ready f s (m .ch) e) where
+    pub step-room : Room s o
+    step-room = room-left f s (m .ch) e o r q ep eq (room f s (m .ch) e h)
+
+    pub step-list : Ready f s (m .ch) r
+    step-list = ready-right f s (m .ch) e o r q ep eq h
+
+    module _ (d : Head) (ed : head-as d ≡ head-tree (treeAt f s o)) where
+      abbrev after-head : Operator·Head → Out Steps Tree
+      after-head x = operateB evaluate x (treeAt f s r) (treeAt f s env) (state m)
+
+      operates : (x : Head) → d ≡ x → after-head (head-as x) ≡ outcome
+      operates x ex =
+          ap after-head (ap head-as (sym ex) ∙ ed) ∙ step-pair evaluate (treeAt f s o) (treeAt f s r) (treeAt f s env) (state m)
+          ∙ ap (λ (t : Tree). stepB evaluate t (treeAt f s env) (state m)) (sym (look-pair f s (m .ch) e o r q ep eq))
+
+      pub step-quote : d ≡ Quote → PerformedOk f s s m outcome (Done r m)
+      unfolding operateB give
+      step-quote ex = answers f s s m outcome (Value r m) (Done r m) (stays f s m outcome r step-list (sym (operates Quote ex))) refl
+
+      pub step-other : d ≡ Other → PerformedOk f s s m outcome (Performed·Refused NoOperator)
+      unfolding operateB refuse stopped PerformedOk
+      step-other ex = ap stopped (sym (operates Other ex))
+
+      pub step-call : (s′ : List ℕ) (a : Performed) (x : Operator) → PerformedOk f s s′ m (callB evaluate (op-of x) (proper-list (treeAt f s r)) (treeAt f s env) (state m)) a → d ≡ Call x → PerformedOk f s s′ m outcome a
+      unfolding operateB
+      step-call s′ a x k ex = comes-since f s s s′ m m _ outcome a k (operates (Call x) ex) (grown-none f s (m .ch) (h .held)) refl (omega arith)
 
 -- ---- eval_node
 
@@ -189,60 +212,42 @@ module _ (f s : List ℕ) (m : Meter) (o : Operator) (list env : ℕ) (b : Bool)
 abbrev pub stepped : Meter → Meter
 stepped m = record { steps = m .steps + 1; ch = m .ch }
 
-step-pair : (run : RunnerB) (t r env : Tree) (s : Steps) → operateB run (head-tree t) r env s ≡ stepB run (pair t r) env s
-unfolding stepB head-tree operateB
-step-pair run (atom b) r env s = refl
-step-pair run (pair x y) r env s = refl
+-- what holds at the loop's head: e in env gives the outcome o
+module _ (f s₀ s : List ℕ) (m₀ m : Meter) (e env : ℕ) (o : Out Steps Tree) (i : Asks f s₀ s m₀ m e env o) where
+  pub node-length : (s₁ : List ℕ) → length s₁ ≡ length s → length s₁ ≡ length s₀
+  node-length s₁ k = k ∙ i .grown .long
 
-pub node-atom : (s : List ℕ) (n : ℕ) (q : Cell) → q ≡ cellAt s n → q ≡ Atom → cellAt s n ≡ Atom
-node-atom s n q eq ep = sym eq ∙ ep
-
-module _ (f s : List ℕ) (m : Meter) (e env : ℕ) where
-  pub node-out : Ready f s (m .ch) e → 4096 ≤ m .steps → ValuedOk f s s m (evaluate (treeAt f s e) (treeAt f s env) (state m)) (Refused StepsOut)
-  node-out h l = stops f s s m _ StepsOut (evaluate-out (treeAt f s e) (treeAt f s env) (state m) l)
+  pub node-out : 4096 ≤ m .steps → ValuedOk f s₀ s m₀ o (Refused StepsOut)
+  node-out l = stops f s₀ s m₀ o StepsOut (ap stopped (i .gives) ∙ evaluate-out (treeAt f s e) (treeAt f s env) (state m) l)
 
   module _ (l : m .steps < 4096) where
-    pub node-down : (t : ℕ) → 3 * (4097 - m .steps) ≡ t → 3 * (4097 - (m .steps + 1)) + 2 < t
-    node-down t et = omega arith
+    pub node-down : (t : ℕ) → 4 * (4097 - m₀ .steps) ≡ t → 4 * (4097 - (m .steps + 1)) + 3 < t
+    node-down t et = let k : m₀ .steps ≤ m .steps = i .later in omega arith
 
-    on : evaluate (treeAt f s e) (treeAt f s env) (state m) ≡ stepB evaluate (treeAt f s e) (treeAt f s env) (state (stepped m))
-    on = evaluate-on (treeAt f s e) (treeAt f s env) (state m) l
+    module _ (s′ : List ℕ) (a : Performed) (h : PerformedOk f s s′ (stepped m) (stepB evaluate (treeAt f s e) (treeAt f s env) (state (stepped m))) a) where
+      -- what came of the expression, for the whole
+      whole : PerformedOk f s₀ s′ m₀ o a
+      whole =
+          let n : m₀ .steps ≤ m .steps = i .later in
+          let on : o ≡ stepB evaluate (treeAt f s e) (treeAt f s env) (state (stepped m)) = i .gives ∙ evaluate-on (treeAt f s e) (treeAt f s env) (state m) l in
+          comes-since f s₀ s s′ m₀ (stepped m) _ o a h (sym on) (i .grown) (i .free) (omega arith)
 
-    -- what was answered after the step
-    answer : (s′ : List ℕ) (a : Valued) (x : Out Steps Tree) → Ready f s (m .ch) e → ValuedOk f s s′ (stepped m) x a → x ≡ stepB evaluate (treeAt f s e) (treeAt f s env) (state (stepped m)) → ValuedOk f s s′ m (evaluate (treeAt f s e) (treeAt f s env) (state m)) a
-    answer s′ a x h k ex = since f s s s′ m (stepped m) _ a (relabel f s s′ (stepped m) x a _ k (ex ∙ sym on)) (grown-none f s (m .ch) (h .held)) refl
+      pub node-value : (q : ℕ) (u : Meter) → a ≡ Done q u → ValuedOk f s₀ s′ m₀ o (Value q u)
+      unfolding PerformedOk ValuedOk
+      node-value q u ea = rw ea at whole
 
-    module _ (q : Cell) where
-      pub node-path : (a : Valued) → ValuedOk f s s (stepped m) (foundB (lookup (number (bytesAt f s e)) (treeAt f s env)) (state (stepped m))) a → q ≡ cellAt s e → q ≡ Atom → Ready f s (m .ch) e
-          → ValuedOk f s s m (evaluate (treeAt f s e) (treeAt f s env) (state m)) a
-      unfolding stepB
-      node-path a k eq ep h = answer s a _ h k (rw (look-atom f s e q eq ep))
+      pub node-refused : (r : Refusal) → a ≡ Performed·Refused r → ValuedOk f s₀ s′ m₀ o (Refused r)
+      unfolding PerformedOk ValuedOk
+      node-refused r ea = rw ea at whole
 
-      module _ (o r : ℕ) (ep : q ≡ Pair o r) (eq : q ≡ cellAt s e) (h : Ready f s (m .ch) e) where
-        pub node-room : Room s o
-        node-room = room-left f s (m .ch) e o r q ep eq (room f s (m .ch) e h)
+      module _ (x z : ℕ) (u : Meter) (ea : a ≡ Runs x z u) where
+        pub node-again : Asks f s₀ s′ m₀ u x z o
+        unfolding PerformedOk
+        node-again = rw ea at whole
 
-        pub node-list : Ready f s (m .ch) r
-        node-list = ready-right f s (m .ch) e o r q ep eq h
-
-        module _ (d : Head) (ed : head-as d ≡ head-tree (treeAt f s o)) where
-          abbrev after-step : Operator·Head → Out Steps Tree
-          after-step x = operateB evaluate x (treeAt f s r) (treeAt f s env) (state (stepped m))
-
-          operates : (x : Head) → d ≡ x → after-step (head-as x) ≡ stepB evaluate (treeAt f s e) (treeAt f s env) (state (stepped m))
-          operates x ex =
-              ap after-step (ap head-as (sym ex) ∙ ed) ∙ step-pair evaluate (treeAt f s o) (treeAt f s r) (treeAt f s env) (state (stepped m))
-              ∙ ap (λ (t : Tree). stepB evaluate t (treeAt f s env) (state (stepped m))) (sym (look-pair f s (m .ch) e o r q ep eq))
-
-          pub node-quote : d ≡ Quote → ValuedOk f s s m (evaluate (treeAt f s e) (treeAt f s env) (state m)) (Value r (stepped m))
-          unfolding operateB give
-          node-quote ex = answer s (Value r (stepped m)) _ h (stays f s (stepped m) (done (treeAt f s r) (state (stepped m))) r node-list refl) (operates Quote ex)
-
-          pub node-other : d ≡ Other → ValuedOk f s s m (evaluate (treeAt f s e) (treeAt f s env) (state m)) (Refused NoOperator)
-          unfolding operateB refuse stopped
-          node-other ex = answer s (Refused NoOperator) _ h (stops f s s (stepped m) (stop NoOperator (state (stepped m))) NoOperator refl) (operates Other ex)
-
-          pub node-call : (s′ : List ℕ) (a : Valued) (x : Operator) → ValuedOk f s s′ (stepped m) (callB evaluate (op-of x) (proper-list (treeAt f s r)) (treeAt f s env) (state (stepped m))) a → d ≡ Call x
-              → ValuedOk f s s′ m (evaluate (treeAt f s e) (treeAt f s env) (state m)) a
-          unfolding operateB
-          node-call s′ a x k ex = answer s′ a _ h k (operates (Call x) ex)
+        pub node-falls : 4096 - u .steps < 4096 - m .steps
+        unfolding PerformedOk
+        node-falls =
+            let c : Asks f s s′ (stepped m) u x z (stepB evaluate (treeAt f s e) (treeAt f s env) (state (stepped m))) = rw ea at h in
+            let n : m .steps + 1 ≤ u .steps = c .later in
+            omega arith

@@ -148,7 +148,7 @@ module _ (f s₀ : List ℕ) (m₀ : Meter) (list env : ℕ) (s : List ℕ) (m :
   pub each-env : Ready f s (m .ch) env
   each-env = grown-ready (i .grown) (i .environment)
 
-  pub each-down : (t : ℕ) → 3 * (4097 - m₀ .steps) + 1 ≡ t → 3 * (4097 - m .steps) < t
+  pub each-down : (t : ℕ) → 4 * (4097 - m₀ .steps) + 1 ≡ t → 4 * (4097 - m .steps) < t
   each-down t e = let l : m₀ .steps ≤ m .steps = i .later in omega arith
 
   abbrev env-tree : Tree

@@ -11,7 +11,7 @@ use Rattle.refusals.specs.declared.Refusal.{Refusal}
 use Rattle.refusals.specs.declared.Refusal.the-variants.{UnitsOut, Fails}
 use Rattle.meaning.specs.Tree.{Tree, atom, pair, same-bytes}
 use Rattle.meaning.specs.Limits.{unit-limit, pair-cost, atom-cost}
-use Rattle.meaning.specs.Meter.{Steps, done, stop, give, refuse, chargeE}
+use Rattle.meaning.specs.Meter.{Out, Steps, done, stop, give, refuse, chargeE}
 use Rattle.meaning.specs.Operator.{makes, cannot, yes-no, chosen, left-of, right-of, is-pair, same-atom, one, two, three, perform}
 use Rattle.meaning.specs.Evaluate.{RunnerB, finishB, evaluate}
 use Rattle.meaning.proofs.MeterLaws.{seq-at}
@@ -31,12 +31,14 @@ use Rattle.evaluator.specs.declared.Meter.{Meter}
 use Rattle.evaluator.specs.declared.Values.{Values}
 use Rattle.evaluator.specs.declared.Valued.{Valued}
 use Rattle.evaluator.specs.declared.Valued.the-variants.{Value, Refused}
+use Rattle.evaluator.specs.declared.Performed.{Performed}
 use Rattle.evaluator.specs.declared.Performed.the-variants.{Done, Runs}
+use Rattle.evaluator.specs.declared.Performed.the-variants.{Refused as Performed·Refused}
 use Rattle.evaluator.specs.declared.Operator.{Operator}
 use Rattle.evaluator.specs.declared.Operator.the-variants.{Apply, Choose, Cons, First, Rest, Listp, Raise, Same}
 use Rattle.evaluator.specs.Heads.{op-of, args-of}
-use Rattle.evaluator.specs.Values.{state, stopped, ValuedOk, metered, Nodes, PerformedOk}
-use Rattle.evaluator.proofs.Outcomes.{stays, stops, seq-stopped}
+use Rattle.evaluator.specs.Values.{state, stopped, ValuedOk, metered, Nodes, PerformedOk, answered}
+use Rattle.evaluator.proofs.Outcomes.{stays, stops, seq-stopped, asks-now, answers}
 
 -- ---- a value and its charge
 
@@ -65,6 +67,13 @@ metered-node a q k c e = rw e
 
 pub metered-refused : (a : Made) (k : ℕ) (r : Refusal) → a ≡ Made·Refused r → Refused r ≡ metered a k
 metered-refused a k r e = rw e
+
+-- an answer, as what comes
+pub answered-value : (a : Valued) (q : ℕ) (m : Meter) → a ≡ Value q m → Done q m ≡ answered a
+answered-value a q m e = rw e
+
+pub answered-refused : (a : Valued) (r : Refusal) → a ≡ Refused r → Performed·Refused r ≡ answered a
+answered-refused a r e = rw e
 
 -- what a maker answered
 pub made-ok : (f s s′ : List ℕ) (m : Meter) (k : ℕ) (t : Tree) (a : Made) (b : Valued) → MadeOk f s s′ (m .ch) k t a → b ≡ metered a (m .steps) → ValuedOk f s s′ m (finishB evaluate (makes t k) (state m)) b
@@ -184,35 +193,38 @@ module _ (f s s′ : List ℕ) (m : Meter) (o : Operator) (v : Values) where
   abbrev c : Tree
   c = treeAt f s (v .c)
 
-  pub performs-apply : Nodes f s (m .ch) v → o ≡ Apply → PerformedOk f s s m (perform (op-of o) (args-of (op-of o) a b c)) (Runs (v .a) (v .b))
-  unfolding PerformedOk perform args-of two
-  performs-apply h e = rw e (record { still = refl; program = h .first; environment = h .second; made = refl })
+  abbrev outcome : Out Steps Tree
+  outcome = finishB evaluate (perform (op-of o) (args-of (op-of o) a b c)) (state m)
 
-  pub performs-raise : o ≡ Raise → PerformedOk f s s m (perform (op-of o) (args-of (op-of o) a b c)) (Done (Refused Fails))
-  unfolding PerformedOk perform args-of
-  performs-raise e = rw e (fails f s s m)
+  pub performs-apply : Nodes f s (m .ch) v → o ≡ Apply → PerformedOk f s s m outcome (Runs (v .a) (v .b) m)
+  unfolding PerformedOk perform args-of two finishB
+  performs-apply h e = rw e (asks-now f s m (v .a) (v .b) (h .first) (h .second))
 
-  module _ (w : Valued) where
-    pub performs-choose : ValuedOk f s s m (finishB evaluate (makes (chosen a b c) 0) (state m)) w → o ≡ Choose → PerformedOk f s s m (perform (op-of o) (args-of (op-of o) a b c)) (Done w)
-    unfolding PerformedOk perform args-of three
-    performs-choose h e = rw e h
+  pub performs-raise : o ≡ Raise → PerformedOk f s s m outcome (Performed·Refused Fails)
+  unfolding PerformedOk perform args-of finishB refuse stopped
+  performs-raise e = rw e
 
-    pub performs-cons : ValuedOk f s s′ m (finishB evaluate (makes (pair a b) pair-cost) (state m)) w → o ≡ Cons → PerformedOk f s s′ m (perform (op-of o) (args-of (op-of o) a b c)) (Done w)
-    unfolding PerformedOk perform args-of two
-    performs-cons h e = rw e h
+  module _ (w : Valued) (p : Performed) (ep : p ≡ answered w) where
+    pub performs-choose : ValuedOk f s s m (finishB evaluate (makes (chosen a b c) 0) (state m)) w → o ≡ Choose → PerformedOk f s s m outcome p
+    unfolding perform args-of three
+    performs-choose h e = rw e (answers f s s m _ w p h ep)
 
-    pub performs-first : ValuedOk f s s m (finishB evaluate (left-of a) (state m)) w → o ≡ First → PerformedOk f s s m (perform (op-of o) (args-of (op-of o) a b c)) (Done w)
-    unfolding PerformedOk perform args-of one
-    performs-first h e = rw e h
+    pub performs-cons : ValuedOk f s s′ m (finishB evaluate (makes (pair a b) pair-cost) (state m)) w → o ≡ Cons → PerformedOk f s s′ m outcome p
+    unfolding perform args-of two
+    performs-cons h e = rw e (answers f s s′ m _ w p h ep)
 
-    pub performs-rest : ValuedOk f s s m (finishB evaluate (right-of a) (state m)) w → o ≡ Rest → PerformedOk f s s m (perform (op-of o) (args-of (op-of o) a b c)) (Done w)
-    unfolding PerformedOk perform args-of one
-    performs-rest h e = rw e h
+    pub performs-first : ValuedOk f s s m (finishB evaluate (left-of a) (state m)) w → o ≡ First → PerformedOk f s s m outcome p
+    unfolding perform args-of one
+    performs-first h e = rw e (answers f s s m _ w p h ep)
 
-    pub performs-listp : ValuedOk f s s′ m (finishB evaluate (yes-no (is-pair a)) (state m)) w → o ≡ Listp → PerformedOk f s s′ m (perform (op-of o) (args-of (op-of o) a b c)) (Done w)
-    unfolding PerformedOk perform args-of one
-    performs-listp h e = rw e h
+    pub performs-rest : ValuedOk f s s m (finishB evaluate (right-of a) (state m)) w → o ≡ Rest → PerformedOk f s s m outcome p
+    unfolding perform args-of one
+    performs-rest h e = rw e (answers f s s m _ w p h ep)
 
-    pub performs-same : ValuedOk f s s′ m (finishB evaluate (same-atom a b) (state m)) w → o ≡ Same → PerformedOk f s s′ m (perform (op-of o) (args-of (op-of o) a b c)) (Done w)
-    unfolding PerformedOk perform args-of two
-    performs-same h e = rw e h
+    pub performs-listp : ValuedOk f s s′ m (finishB evaluate (yes-no (is-pair a)) (state m)) w → o ≡ Listp → PerformedOk f s s′ m outcome p
+    unfolding perform args-of one
+    performs-listp h e = rw e (answers f s s′ m _ w p h ep)
+
+    pub performs-same : ValuedOk f s s′ m (finishB evaluate (same-atom a b) (state m)) w → o ≡ Same → PerformedOk f s s′ m outcome p
+    unfolding perform args-of two
+    performs-same h e = rw e (answers f s s′ m _ w p h ep)

@@ -1,12 +1,13 @@
--- Outcomes and answers: work that stops, answers taken apart, made and carried on. Assumes nothing.
-use Prim.Native.Nat.{ℕ}
-use mathlib.Core.Path.{_≡_, refl, _∙_}
+-- Outcomes and answers: work that stops, answers taken apart and made, and carried on. Assumes nothing.
+use Prim.Native.Nat.{ℕ, _≤_}
+use mathlib.Core.Path.{_≡_, refl, sym, _∙_, ap}
 use mathlib.Core.List.{List}
 use mathlib.Core.Option.{some}
 use native.Mathlib.Omega.{arith}
 use Rattle.refusals.specs.declared.Refusal.{Refusal}
 use Rattle.meaning.specs.Tree.{Tree}
 use Rattle.meaning.specs.Meter.{M, Out, done, stop, Steps, _>>=_, _>>_}
+use Rattle.meaning.specs.Evaluate.{evaluate}
 use Rattle.store.specs.Nodes.{treeAt}
 use Rattle.store.specs.Store.{Ready}
 use Rattle.store.specs.Makers.{Grown}
@@ -14,7 +15,10 @@ use Rattle.store.proofs.Ready.{grown-none, grown-both}
 use Rattle.evaluator.specs.declared.Meter.{Meter}
 use Rattle.evaluator.specs.declared.Valued.{Valued}
 use Rattle.evaluator.specs.declared.Valued.the-variants.{Value, Refused}
-use Rattle.evaluator.specs.Values.{state, stopped, Given, ValuedOk}
+use Rattle.evaluator.specs.declared.Performed.{Performed}
+use Rattle.evaluator.specs.declared.Performed.the-variants.{Done, Runs}
+use Rattle.evaluator.specs.declared.Performed.the-variants.{Refused as Performed·Refused}
+use Rattle.evaluator.specs.Values.{state, stopped, Given, ValuedOk, Asks, PerformedOk, answered}
 
 -- ---- work that stops
 
@@ -42,10 +46,6 @@ module _ (f s s′ : List ℕ) (m : Meter) (o : Out Steps Tree) (a : Valued) whe
   unfolding ValuedOk
   is-refused r h e = rw e at h
 
-  -- the outcome under another name
-  pub relabel : (o′ : Out Steps Tree) → ValuedOk f s s′ m o a → o ≡ o′ → ValuedOk f s s′ m o′ a
-  relabel o′ h e = rw e at h
-
 -- a node of the room as it is
 pub stays : (f s : List ℕ) (m : Meter) (o : Out Steps Tree) (q : ℕ) → Ready f s (m .ch) q → o ≡ done (treeAt f s q) (state m) → ValuedOk f s s m o (Value q m)
 unfolding ValuedOk
@@ -55,8 +55,26 @@ pub stops : (f s s′ : List ℕ) (m : Meter) (o : Out Steps Tree) (r : Refusal)
 unfolding ValuedOk
 stops f s s′ m o r e = e
 
--- what was answered from a later room is answered from the earlier one
-pub since : (f s s₁ s₂ : List ℕ) (m m₁ : Meter) (o : Out Steps Tree) (a : Valued) → ValuedOk f s₁ s₂ m₁ o a → Grown f s s₁ (m .ch) (m₁ .ch) → m₁ .ch .free ≡ m .ch .free → ValuedOk f s s₂ m o a
-unfolding ValuedOk
-since f s s₁ s₂ m m₁ o (Value q n) h g e = record { grown = grown-both g (h .grown); ready = h .ready; free = h .free ∙ e; value = h .value }
-since f s s₁ s₂ m m₁ o (Refused r) h g e = h
+-- ---- what comes of an expression or of an operator's arguments
+
+-- a program to run, with nothing done before
+pub asks-now : (f s : List ℕ) (m : Meter) (p e : ℕ) → Ready f s (m .ch) p → Ready f s (m .ch) e → Asks f s s m m p e (evaluate (treeAt f s p) (treeAt f s e) (state m))
+asks-now f s m p e h k = record { grown = grown-none f s (m .ch) (h .held); free = refl; later = omega arith; program = h; environment = k; gives = refl }
+
+-- an answer
+pub answers : (f s s′ : List ℕ) (m : Meter) (o : Out Steps Tree) (a : Valued) (p : Performed) → ValuedOk f s s′ m o a → p ≡ answered a → PerformedOk f s s′ m o p
+unfolding ValuedOk PerformedOk
+answers f s s′ m o a p h e = rw e (go a h)
+  where
+    go : (a : Valued) → ValuedOk f s s′ m o a → PerformedOk f s s′ m o (answered a)
+    go (Value q u) k = k
+    go (Refused r) k = k
+
+-- what came from a later room comes from the earlier one, with the outcome under another name
+pub comes-since : (f s s₁ s₂ : List ℕ) (m m₁ : Meter) (o o′ : Out Steps Tree) (a : Performed) → PerformedOk f s₁ s₂ m₁ o a → o ≡ o′ → Grown f s s₁ (m .ch) (m₁ .ch) → m₁ .ch .free ≡ m .ch .free → m .steps ≤ m₁ .steps → PerformedOk f s s₂ m o′ a
+unfolding PerformedOk
+comes-since f s s₁ s₂ m m₁ o o′ (Done q u) h eo g e l = record { grown = grown-both g (h .grown); ready = h .ready; free = h .free ∙ e; value = sym eo ∙ h .value }
+comes-since f s s₁ s₂ m m₁ o o′ (Runs x z u) h eo g e l =
+    let k : m₁ .steps ≤ u .steps = h .later in
+    record { grown = grown-both g (h .grown); free = h .free ∙ e; later = omega arith; program = h .program; environment = h .environment; gives = sym eo ∙ h .gives }
+comes-since f s s₁ s₂ m m₁ o o′ (Performed·Refused r) h eo g e l = ap stopped (sym eo) ∙ h

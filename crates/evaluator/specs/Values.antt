@@ -8,9 +8,7 @@ use lib.ListN.{getD}
 use Rattle.refusals.specs.declared.Refusal.{Refusal}
 use Rattle.meaning.specs.Tree.{Tree, nil}
 use Rattle.meaning.specs.Meter.{Out, done, stop, Steps}
-use Rattle.meaning.specs.Operator.{runs}
-use Rattle.meaning.specs.Operator.{Made as Operator·Made}
-use Rattle.meaning.specs.Evaluate.{finishB, evaluate}
+use Rattle.meaning.specs.Evaluate.{evaluate}
 use Rattle.store.specs.declared.Charges.{Charges}
 use Rattle.store.specs.declared.Made.{Made}
 use Rattle.store.specs.declared.Made.the-variants.{Node}
@@ -28,6 +26,7 @@ use Rattle.evaluator.specs.declared.Args.the-variants.{All}
 use Rattle.evaluator.specs.declared.Args.the-variants.{Refused as Args·Refused}
 use Rattle.evaluator.specs.declared.Performed.{Performed}
 use Rattle.evaluator.specs.declared.Performed.the-variants.{Done, Runs}
+use Rattle.evaluator.specs.declared.Performed.the-variants.{Refused as Performed·Refused}
 
 -- a meter as the definition's state
 abbrev pub state : Meter → Steps
@@ -91,16 +90,25 @@ unfolding stopped
 ArgsOk f s s′ m o (All v m′) = AllGiven f s s′ m m′ v o
 ArgsOk f s s′ m o (Args·Refused r) = stopped o ≡ some r
 
--- ---- what an operator makes of them
+-- ---- what comes of an expression or of an operator's arguments
 
--- a program and an environment, with nothing done
-pub record Asks (f s s′ : List ℕ) (m : Meter) (p e : ℕ) (t : Operator·Made) : Type 0 where
-  pub still : s′ ≡ s
-  pub program : Ready f s (m .ch) p
-  pub environment : Ready f s (m .ch) e
-  pub made : t ≡ runs (treeAt f s p) (treeAt f s e)
+-- a program is left to run in an environment, in a room that grew, and gives the outcome
+pub record Asks (f s s′ : List ℕ) (m m′ : Meter) (p e : ℕ) (o : Out Steps Tree) : Type 0 where
+  pub grown : Grown f s s′ (m .ch) (m′ .ch)
+  pub free : m′ .ch .free ≡ m .ch .free
+  pub later : m .steps ≤ m′ .steps
+  pub program : Ready f s′ (m′ .ch) p
+  pub environment : Ready f s′ (m′ .ch) e
+  pub gives : o ≡ evaluate (treeAt f s′ p) (treeAt f s′ e) (state m′)
 
-unfoldable pub PerformedOk : List ℕ → List ℕ → List ℕ → Meter → Operator·Made → Performed → Type 0
-unfolding ValuedOk finishB
-PerformedOk f s s′ m t (Done a) = ValuedOk f s s′ m (finishB evaluate t (state m)) a
-PerformedOk f s s′ m t (Runs p e) = Asks f s s′ m p e t
+-- a value, a program to run, or a refusal, where the outcome is o
+unfoldable pub PerformedOk : List ℕ → List ℕ → List ℕ → Meter → Out Steps Tree → Performed → Type 0
+unfolding stopped
+PerformedOk f s s′ m o (Done q m′) = Given f s s′ m m′ q o
+PerformedOk f s s′ m o (Runs p e m′) = Asks f s s′ m m′ p e o
+PerformedOk f s s′ m o (Performed·Refused r) = stopped o ≡ some r
+
+-- an answer, as what comes
+abbrev pub answered : Valued → Performed
+answered (Value q m) = Done q m
+answered (Refused r) = Performed·Refused r

@@ -11,7 +11,7 @@ ghost use Rattle.meaning.specs.Operator.{makes, yes-no, chosen, left-of, right-
 ghost use Rattle.meaning.specs.Operator.{head-of as Operator·head-of};
 ghost use Rattle.meaning.specs.Operator.{takes as Operator·takes};
 ghost use Rattle.meaning.specs.Operator.{perform as Operator·perform};
-ghost use Rattle.meaning.specs.Evaluate.{foundB, finishB, each-valueB, callB, evaluate};
+ghost use Rattle.meaning.specs.Evaluate.{foundB, finishB, each-valueB, callB, stepB, evaluate};
 ghost use Rattle.store.specs.declared.Cell.the-variants.{Atom};
 ghost use Rattle.store.specs.Cells.{Room, cellAt, bytesAt};
 ghost use Rattle.store.specs.Nodes.{tree-in};
@@ -19,6 +19,7 @@ ghost use Rattle.store.specs.Store.{Held, Ready};
 ghost use Rattle.evaluator.specs.Heads.{op-of, head-as, head-tree, accepted, items, args-of};
 ghost use Rattle.evaluator.specs.Values.{state, ValuedOk, Nodes, put-value, ArgsOk, PerformedOk};
 ghost use Rattle.evaluator.specs.Values.{metered as Values·metered};
+ghost use Rattle.evaluator.specs.Values.{answered as Values·answered};
 
 // Steps of this evaluation, and the run's charges.
 pub struct Meter {
@@ -62,10 +63,12 @@ pub enum Args {
     Refused(Refusal),
 }
 
-// What an operator makes of its arguments' values: an answer, or a program to run in an environment.
+// What comes of an expression or of an operator's arguments: a value, or a program to run in an environment, and what was spent; or a
+// refusal. (A refusal beside the value, not a Valued for both: an evaluation within another takes 48 bytes less of stack.)
 pub enum Performed {
-    Done(Valued),
-    Runs(usize, usize),
+    Done(usize, Meter),
+    Runs(usize, usize, Meter),
+    Refused(Refusal),
 }
 
 // ---- paths
@@ -273,19 +276,29 @@ fn same(form: &[u8], room: &mut [u8], m: Meter, a: usize, b: usize) -> Valued
     }
 }
 
+// A value or a refusal, as what comes of an operator.
+fn answered(a: Valued) -> Performed
+    ensures { λ r. ⌜ r ≡ Values·answered a ⌝ }
+{
+    match a {
+        Valued::Value(q, m) => Performed::Done(q, m),
+        Valued::Refused(e) => Performed::Refused(e),
+    }
+}
+
 fn perform(form: &[u8], room: &mut [u8], m: Meter, op: Operator, v: Values) -> Performed
     requires { ⌜ Nodes (now form) (now room) (m .ch) v ⌝ }
-    ensures { λ r. ⌜ PerformedOk (now (form .entry)) (now (room .entry)) (now (room .exit)) m (Operator·perform (op-of op) (args-of (op-of op) (tree-in form room (v .a)) (tree-in form room (v .b)) (tree-in form room (v .c)))) r ⌝ }
+    ensures { λ r. ⌜ PerformedOk (now (form .entry)) (now (room .entry)) (now (room .exit)) m (finishB evaluate (Operator·perform (op-of op) (args-of (op-of op) (tree-in form room (v .a)) (tree-in form room (v .b)) (tree-in form room (v .c)))) (state m)) r ⌝ }
 {
     match op {
-        Operator::Apply => Performed::Runs(v.a, v.b),
-        Operator::Choose => Performed::Done(choose(form, room, m, v)),
-        Operator::Cons => Performed::Done(cons(form, room, m, v.a, v.b)),
-        Operator::First => Performed::Done(first(form, room, m, v.a)),
-        Operator::Rest => Performed::Done(rest(form, room, m, v.a)),
-        Operator::Listp => Performed::Done(listp(form, room, m, v.a)),
-        Operator::Raise => Performed::Done(Valued::Refused(Refusal::Fails)),
-        Operator::Same => Performed::Done(same(form, room, m, v.a, v.b)),
+        Operator::Apply => Performed::Runs(v.a, v.b, m),
+        Operator::Choose => answered(choose(form, room, m, v)),
+        Operator::Cons => answered(cons(form, room, m, v.a, v.b)),
+        Operator::First => answered(first(form, room, m, v.a)),
+        Operator::Rest => answered(rest(form, room, m, v.a)),
+        Operator::Listp => answered(listp(form, room, m, v.a)),
+        Operator::Raise => Performed::Refused(Refusal::Fails),
+        Operator::Same => answered(same(form, room, m, v.a, v.b)),
     }
 }
 
@@ -348,42 +361,66 @@ fn eval_each(form: &[u8], room: &mut [u8], m: Meter, list: usize, env: usize) ->
     }
 }
 
-// A call of an operator: the argument list and its count first, then all arguments, then what they are.
-fn call(form: &[u8], room: &mut [u8], m: Meter, op: Operator, list: usize, env: usize) -> Valued
+// A call of an operator: the argument list and its count first, then all arguments, then what they are. A program under `a` is left
+// to run.
+fn call(form: &[u8], room: &mut [u8], m: Meter, op: Operator, list: usize, env: usize) -> Performed
     requires { ⌜ Ready (now form) (now room) (m .ch) list × Ready (now form) (now room) (m .ch) env ⌝ }
-    ensures { λ r. ⌜ ValuedOk (now (form .entry)) (now (room .entry)) (now (room .exit)) m (callB evaluate (op-of op) (proper-list (tree-in form room list)) (tree-in form room env) (state m)) r ⌝ }
+    ensures { λ r. ⌜ PerformedOk (now (form .entry)) (now (room .entry)) (now (room .exit)) m (callB evaluate (op-of op) (proper-list (tree-in form room list)) (tree-in form room env) (state m)) r ⌝ }
 {
     if !accepts(form, room, op, list) {
-        return Valued::Refused(Refusal::Fails);
+        return Performed::Refused(Refusal::Fails);
     }
     match eval_each(form, room, m, list, env) {
-        Args::Refused(e) => Valued::Refused(e),
-        Args::All(v, t) => match perform(form, room, t, op, v) {
-            Performed::Done(a) => a,
-            Performed::Runs(p, e) => eval_node(form, room, t, p, e),
+        Args::Refused(e) => Performed::Refused(e),
+        Args::All(v, t) => perform(form, room, t, op, v),
+    }
+}
+
+// An expression whose step is taken: a path, a quote, or a call.
+fn step(form: &[u8], room: &mut [u8], m: Meter, e: usize, env: usize) -> Performed
+    requires { ⌜ Ready (now form) (now room) (m .ch) e × Ready (now form) (now room) (m .ch) env ⌝ }
+    ensures { λ r. ⌜ PerformedOk (now (form .entry)) (now (room .entry)) (now (room .exit)) m (stepB evaluate (tree-in form room e) (tree-in form room env) (state m)) r ⌝ }
+{
+    match store::look_node(room, e) {
+        Cell::Atom => answered(path_node(form, room, m, e, env)),
+        Cell::Pair(o, r) => match head_node(form, room, o) {
+            Head::Quote => Performed::Done(r, m),
+            Head::Call(op) => call(form, room, m, op, r, env),
+            Head::Other => Performed::Refused(Refusal::NoOperator),
         },
     }
 }
 
-// The value of the expression e in env. Every expression takes a step as it begins.
+// The value of the expression e in env. Every expression takes a step as it begins. The loop goes on with the program under an `a`,
+// so that one that calls itself in the last place takes no stack.
 pub fn eval_node(form: &[u8], room: &mut [u8], m: Meter, e: usize, env: usize) -> Valued
     requires { ⌜ Ready (now form) (now room) (m .ch) e × Ready (now form) (now room) (m .ch) env ⌝ }
     ensures { λ r. ⌜ ValuedOk (now (form .entry)) (now (room .entry)) (now (room .exit)) m (evaluate (tree-in form room e) (tree-in form room env) (state m)) r ⌝ }
 {
-    if 4096 <= m.steps {
-        return Valued::Refused(Refusal::StepsOut);
-    }
-    let c = m.ch;
-    let s = Meter {
-        steps: m.steps + 1,
-        ch: c,
-    };
-    match store::look_node(room, e) {
-        Cell::Atom => path_node(form, room, s, e, env),
-        Cell::Pair(o, r) => match head_node(form, room, o) {
-            Head::Quote => Valued::Value(r, s),
-            Head::Call(op) => call(form, room, s, op, r, env),
-            Head::Other => Valued::Refused(Refusal::NoOperator),
-        },
+    let mut t = m;
+    let mut p = e;
+    let mut q = env;
+    loop {
+        if 4096 <= t.steps {
+            return Valued::Refused(Refusal::StepsOut);
+        }
+        let c = t.ch;
+        let s = Meter {
+            steps: t.steps + 1,
+            ch: c,
+        };
+        match step(form, room, s, p, q) {
+            Performed::Done(n, u) => {
+                return Valued::Value(n, u);
+            }
+            Performed::Refused(n) => {
+                return Valued::Refused(n);
+            }
+            Performed::Runs(x, z, u) => {
+                t = u;
+                p = x;
+                q = z;
+            }
+        }
     }
 }

@@ -1,6 +1,7 @@
 pub mod Spans
 pub mod Lengths
 pub mod Trees
+pub mod Waits
 pub mod Atoms
 pub mod Reader
 pub mod Form

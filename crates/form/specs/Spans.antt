@@ -1,8 +1,8 @@
 -- A stretch of the lent bytes as the definition reads it.
-use Prim.Native.Nat.{ℕ, _+_, _-_, _≤_, _<_}
+use Prim.Native.Nat.{ℕ, _-_, _≤_}
 use mathlib.Core.Path.{_≡_}
 use mathlib.Core.List.{List}
-use lib.ListN.{length, take, drop, getD}
+use lib.ListN.{length, take, drop}
 use Rattle.refusals.specs.declared.Refusal.{Refusal}
 use Rattle.meaning.specs.Tree.{Tree}
 use Rattle.meaning.specs.Meter.{Out, done, stop, M}
@@ -26,12 +26,6 @@ next-tree s = read limits (length (s .left)) s
 -- work is refused with n (data, not a record: `search` builds records, and has no way to choose the state)
 pub data Stops {A : Type 0} (o : Out Reading A) (n : Refusal) : Type 0 where
   stops : (s : Reading) → o ≡ stop n s → Stops o n
-
--- so many bytes ff stand from at on, and then something else
-pub record Opens (f : List ℕ) (end at k : ℕ) : Type 0 where
-  pub within : at + k ≤ end
-  pub each : (j : ℕ) → j < k → getD f (at + j) 0 ≡ 0xff
-  pub last : at + k < end → getD f (at + k) 0 ≡ 0xff → ⊥
 
 -- ---- a length
 

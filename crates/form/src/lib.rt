@@ -7,15 +7,16 @@ use store::ROOM;
 ghost use mathlib.Core.Path.{_≡_};
 ghost use mathlib.Core.List.{[], _∷_, _++_};
 ghost use mathlib.Core.Bool.{true};
-ghost use Prim.Native.Nat.{_+_, _≤_, _<_};
+ghost use Prim.Native.Nat.{_+_, _-_, _≤_, _<_};
 ghost use lib.ListN.{length, take, drop, getD};
 ghost use Rattle.meaning.specs.Limits.{form-limit, room-least};
 ghost use Rattle.meaning.specs.Form.{limits, more, sized, length-from, needs-prefix, read-long, write-atom, write};
 ghost use Rattle.meaning.specs.Outcome.{deliver-tree, Delivers, Settles};
 ghost use Rattle.store.specs.Nodes.{treeAt, tree-in};
-ghost use Rattle.store.specs.Store.{Held, atom-most};
-ghost use Rattle.form.specs.Spans.{left-from, next-tree, Opens, LengthOk};
+ghost use Rattle.store.specs.Store.{Held, Ready, atom-most};
+ghost use Rattle.form.specs.Spans.{left-from, next-tree, LengthOk};
 ghost use Rattle.form.specs.Reads.{Stretch, ReadOk, FormOk, WholeOk, reading-of};
+ghost use Rattle.form.specs.Waits.{Waits, ClosedOk};
 ghost use Rattle.form.specs.Writes.{Writable, Wrote, extent, Delivered};
 ghost use Rattle.form.specs.Both.{read-both, Cut, TwoOk};
 ghost use Rattle.form.specs.Bytes.{read-outcome, write-outcome, read-says, write-says};
@@ -29,6 +30,12 @@ pub enum Reading {
 // A length that a prefix says and where the body begins, or a refusal.
 pub(crate) enum Length {
     Long(usize, usize),
+    Refused(Refusal),
+}
+
+// The node that is whole, how many parts wait for it, and the charges; or a refusal.
+pub(crate) enum Closed {
+    Node(usize, usize, Charges),
     Refused(Refusal),
 }
 
@@ -59,6 +66,11 @@ pub enum WriteAnswer {
 const FORM: usize = 8192;
 
 const ATOM: usize = 64;
+
+const FEW: usize = 512;
+
+// No node.
+const OPEN: u16 = 0xffff;
 
 // ---- the prefix of an atom
 
@@ -175,12 +187,9 @@ fn read_long(form: &[u8], room: &mut [u8], stop: usize, at: usize, p: usize, ch:
 
 // One atom, from at on: the byte there is not ff.
 fn read_atom(form: &[u8], room: &mut [u8], stop: usize, at: usize, ch: Charges) -> Reading
-    requires { ⌜ Held (now form) (now room) ch × Stretch (now form) stop at × (at < stop → getD (now form) at 0 ≡ 255 → ⊥) ⌝ }
-    ensures { λ r. ⌜ ReadOk (now (form .entry)) (now (room .entry)) (now (room .exit)) stop at ch (next-tree (left-from (now (form .entry)) at stop (ch .units))) r ⌝ }
+    requires { ⌜ Held (now form) (now room) ch × Stretch (now form) stop at × (at < stop) × (getD (now form) at 0 ≡ 255 → ⊥) ⌝ }
+    ensures { λ r. ⌜ ReadOk (now (form .entry)) (now (room .entry)) (now (room .exit)) stop (at + 1) ch (next-tree (left-from (now (form .entry)) at stop (ch .units))) r ⌝ }
 {
-    if stop <= at {
-        return Reading::Refused(Refusal::EndsEarly);
-    }
     let p = wide(form[at]);
     if p < 0x80 {
         return with_next(store::form_atom_node(form, room, ch, at, 1), at + 1);
@@ -191,57 +200,97 @@ fn read_atom(form: &[u8], room: &mut [u8], stop: usize, at: usize, ch: Charges) 
     read_long(form, room, stop, at + 1, p, ch)
 }
 
-// How many bytes ff stand one after the other from at on.
-fn pairs_from(form: &[u8], stop: usize, at: usize) -> usize
-    requires { ⌜ (at ≤ stop) × (stop ≤ length (now form)) ⌝ }
-    ensures { λ r. ⌜ Opens (now (form .entry)) stop at r ⌝ }
+// The node q is whole. While the last of the k entries that wait is a left part, its pair is made, and is then the node that is whole.
+fn close<'a>(
+    form: &'a [u8],
+    room: &mut [u8],
+    wait: &'a [u16],
+    k: usize,
+    q: usize,
+    ch: Charges,
+) -> Closed
+    requires { ⌜ Ready (now form) (now room) ch q × Waits (now form) (now room) (now wait) ch k ⌝ }
+    ensures { λ r. ⌜ ClosedOk (now (form .entry)) (now (room .entry)) (now (room .exit)) (now (wait .entry)) k q ch r ⌝ }
 {
-    let mut i = at;
-    while i < stop {
-        if form[i] != 0xff {
-            return i - at;
+    let mut left = k;
+    let mut node = q;
+    let mut spent = ch;
+    while 0 < left {
+        let v = wait[left - 1];
+        if v == OPEN {
+            return Closed::Node(node, left, spent);
         }
-        i += 1;
+        match store::pair_node(form, room, spent, v as usize, node) {
+            Made::Refused(over) => {
+                return Closed::Refused(over);
+            }
+            Made::Node(p, c) => {
+                node = p;
+                spent = c;
+                left -= 1;
+            }
+        }
     }
-    i - at
+    Closed::Node(node, left, spent)
 }
 
-// One tree, from at on. Pairs that begin one inside the other are a count, and each is made once its
-// right part is read: so only right parts take stack, and a form has at most 4,096 of them in a row.
-pub fn read_node(form: &[u8], room: &mut [u8], stop: usize, at: usize, ch: Charges) -> Reading
-    requires { ⌜ Held (now form) (now room) ch × Stretch (now form) stop at ⌝ }
+// One tree, from at on. A pair waits as OPEN while its left part is read, and as that part's node while its right part is: an entry, and
+// no frame. There are no more entries than bytes ff.
+fn read_tree(
+    form: &[u8],
+    room: &mut [u8],
+    wait: &mut [u16],
+    stop: usize,
+    at: usize,
+    ch: Charges,
+) -> Reading
+    requires { ⌜ Held (now form) (now room) ch × Stretch (now form) stop at × (stop - at ≤ length (now wait)) ⌝ }
     ensures { λ r. ⌜ ReadOk (now (form .entry)) (now (room .entry)) (now (room .exit)) stop at ch (next-tree (left-from (now (form .entry)) at stop (ch .units))) r ⌝ }
 {
-    let mut pending = pairs_from(form, stop, at);
-    match read_atom(form, room, stop, at + pending, ch) {
-        Reading::Refused(e) => Reading::Refused(e),
-        Reading::Node(q, m, c) => {
-            let mut left = q;
-            let mut next = m;
-            let mut spent = c;
-            while 0 < pending {
-                match read_node(form, room, stop, next, spent) {
-                    Reading::Refused(e) => {
-                        return Reading::Refused(e);
-                    }
-                    Reading::Node(right, after, d) => {
-                        match store::pair_node(form, room, d, left, right) {
-                            Made::Refused(over) => {
-                                return Reading::Refused(over);
-                            }
-                            Made::Node(p, b) => {
-                                left = p;
-                                next = after;
-                                spent = b;
-                                pending -= 1;
-                            }
-                        }
-                    }
+    let mut next = at;
+    let mut k: usize = 0;
+    let mut spent = ch;
+    while next < stop {
+        if form[next] == 0xff {
+            wait[k] = OPEN;
+            k += 1;
+            next += 1;
+        } else {
+            match read_atom(form, room, stop, next, spent) {
+                Reading::Refused(e) => {
+                    return Reading::Refused(e);
                 }
+                Reading::Node(q, m, c) => match close(form, room, wait, k, q, c) {
+                    Closed::Refused(over) => {
+                        return Reading::Refused(over);
+                    }
+                    Closed::Node(p, j, d) => {
+                        if j == 0 {
+                            return Reading::Node(p, m, d);
+                        }
+                        wait[j - 1] = p as u16;
+                        k = j;
+                        next = m;
+                        spent = d;
+                    }
+                },
             }
-            Reading::Node(left, next, spent)
         }
     }
+    Reading::Refused(Refusal::EndsEarly)
+}
+
+// One tree, from at on, of at most 8,192 bytes. A short one is spared the clearing of many entries.
+pub fn read_node(form: &[u8], room: &mut [u8], stop: usize, at: usize, ch: Charges) -> Reading
+    requires { ⌜ Held (now form) (now room) ch × Stretch (now form) stop at × (stop - at ≤ form-limit) ⌝ }
+    ensures { λ r. ⌜ ReadOk (now (form .entry)) (now (room .entry)) (now (room .exit)) stop at ch (next-tree (left-from (now (form .entry)) at stop (ch .units))) r ⌝ }
+{
+    if stop - at <= FEW {
+        let mut few = [0u16; FEW];
+        return read_tree(form, room, &mut few, stop, at, ch);
+    }
+    let mut wait = [0u16; FORM];
+    read_tree(form, room, &mut wait, stop, at, ch)
 }
 
 // One tree and no more, of at most 8,192 bytes: form[from..stop].

@@ -1,8 +1,8 @@
 -- What the memo is asked, and what it answers.
-use Prim.Native.Nat.{ℕ, _+_, _-_, _<_, _≤_}
+use Prim.Native.Nat.{ℕ, _<_, _≤_}
 use mathlib.Core.Path.{_≡_}
 use mathlib.Core.List.{List}
-use mathlib.Core.Bool.{true, false}
+use mathlib.Core.Bool.{false}
 use Rattle.meaning.specs.Tree.{equal-to}
 use Rattle.meaning.specs.Limits.{height-at}
 use Rattle.meaning.specs.Meter.{done}
@@ -12,30 +12,14 @@ use Rattle.store.specs.Nodes.{treeAt}
 use Rattle.store.specs.Store.{Ready}
 use Rattle.store.specs.Makers.{Grown}
 use Rattle.run_state.specs.declared.Work.{Work}
-use Rattle.run_state.specs.declared.Entry.{Entry}
 use Rattle.run_state.specs.declared.State.{State}
 use Rattle.run_state.specs.Work.{spentOf, Did}
-use Rattle.run_state.specs.State.{entryAt, Valid}
-use Rattle.memo.specs.declared.Verdict.{Verdict}
+use Rattle.run_state.specs.State.{Valid}
 use Rattle.memo.specs.declared.Answer.{Answer}
 use Rattle.memo.specs.declared.Answer.the-variants.{Known, Unknown}
-
--- ---- comparison
-
--- a yes is right
-pub record AlikeOk (f s : List ℕ) (a b : ℕ) (v : Verdict) : Type 0 where
-  pub tree : v .same ≡ true → treeAt f s a ≡ treeAt f s b
+use Rattle.memo.specs.Policy.{memo-says, row-after, used-after}
 
 -- ---- a lookup
-
--- the entry is one of n's tree, and its height fits at the nesting
-pub record Matches (f s : List ℕ) (n nest : ℕ) (e : Entry) : Type 0 where
-  pub tree : treeAt f s (e .expr) ≡ treeAt f s n
-  pub height : e .height + nest ≤ 65
-
--- the place of an entry that matches, or no entry's place
-pub record Found (f s : List ℕ) (n nest used : ℕ) (row : List (List ℕ)) (i : ℕ) : Type 0 where
-  pub entry : i < used → Matches f s n nest (entryAt row i)
 
 -- a hit is the call: its result, its charges, its mark
 pub record Hit (f s : List ℕ) (w w′ : Work) (n nest : ℕ) : Type 0 where
@@ -46,6 +30,11 @@ pub record Hit (f s : List ℕ) (w w′ : Work) (n nest : ℕ) : Type 0 where
 unfoldable pub AnswerOk : List ℕ → List ℕ → Work → ℕ → ℕ → Answer → Type 0
 AnswerOk f s w n nest (Known w′) = Hit f s w w′ n nest
 AnswerOk f s w n nest Unknown = Unit
+
+-- what `lookup` answers: by the policy, and rightly
+pub record Looked (f s : List ℕ) (row : List (List ℕ)) (w : Work) (used n nest : ℕ) (a : Answer) : Type 0 where
+  pub right : AnswerOk f s w n nest a
+  pub says : a ≡ memo-says f s row w used n nest
 
 -- ---- storing
 
@@ -68,10 +57,13 @@ pub record Small (b a : Work) (n r nest : ℕ) : Type 0 where
   pub units-most : a .ch .units ≤ 32768
   pub nests : nest ≤ 65
 
-abbrev pub entry-of : Work → Work → ℕ → ℕ → ℕ → ℕ → Entry
-entry-of b a n r nest print = record { expr = n; result = r; passes = a .passes - b .passes; units = a .ch .units - b .ch .units; height = height-at nest; print = print }
-
 -- the state after storing: the same work, and a sound memo
 pub record Kept (f s : List ℕ) (row : List (List ℕ)) (st q : State) : Type 0 where
   pub work : q .w ≡ st .w
   pub valid : Valid f s row q
+
+-- what `store` did: by the policy, and rightly
+pub record Stored (f s : List ℕ) (row row′ : List (List ℕ)) (st : State) (b : Work) (n r nest : ℕ) (q : State) : Type 0 where
+  pub kept : Kept f s row′ st q
+  pub filled : row′ ≡ row-after f s row st b n r nest
+  pub used : q .used ≡ used-after row st b

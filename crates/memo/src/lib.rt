@@ -8,13 +8,14 @@ use sexp::Compared;
 use store::Charges;
 ghost use mathlib.Core.Path.{_≡_};
 ghost use mathlib.Core.List.{[]};
-ghost use Prim.Native.Nat.{_%_, _<_, _≤_};
+ghost use Prim.Native.Nat.{suc, _<_, _≤_};
 ghost use lib.ListN.{length, getD, set};
-ghost use Rattle.meaning.specs.Limits.{pass-limit};
+ghost use Rattle.meaning.specs.Limits.{unit-limit, pass-limit};
 ghost use Rattle.store.specs.Cells.{Room};
 ghost use Rattle.store.specs.Store.{Ready};
-ghost use Rattle.run_state.specs.State.{entryOf, recordOf, Sound, Sounds, Valid};
-ghost use Rattle.memo.specs.Memo.{AlikeOk, Matches, Found, AnswerOk, Ended, Small, entry-of, Kept};
+ghost use Rattle.run_state.specs.State.{entryOf, recordOf, Sounds, Valid};
+ghost use Rattle.memo.specs.Policy.{low-print, alike-in, candidate, look-limit, first-hit, hit-says, entry-of};
+ghost use Rattle.memo.specs.Memo.{Looked, Ended, Small, Stored};
 
 // What the memo says of a call: the work after it, or nothing.
 pub enum Answer {
@@ -90,7 +91,7 @@ fn alike<'a>(
     looks: usize,
 ) -> Verdict
     requires { ⌜ Room (now room) x × Room (now room) y ⌝ }
-    ensures { λ r. ⌜ AlikeOk (now (form .entry)) (now (room .entry)) x y r ⌝ }
+    ensures { λ r. ⌜ r ≡ alike-in (now (form .entry)) (now (room .entry)) (suc deep) looks x y ⌝ }
 {
     let mut a = x;
     let mut b = y;
@@ -139,12 +140,33 @@ fn alike<'a>(
 
 // What an entry holds of a fingerprint: a filter before the expression's node is looked at.
 fn low_print(key: u64) -> u16
-    ensures { λ r. ⌜ r ≡ key % 65536 ⌝ }
+    ensures { λ r. ⌜ r ≡ low-print key ⌝ }
 {
     (key % 65536) as u16
 }
 
-// The place of an entry whose expression has the tree of n and whose height fits at `nest`; `used` where none is found.
+// Is the entry one to compare with an expression of fingerprint `key`, at `nest`?
+fn is_candidate<'a>(
+    form: &'a [u8],
+    room: &'a [u8],
+    ch: Charges,
+    e: Entry,
+    key: u64,
+    nest: usize,
+) -> bool
+    requires { ⌜ Ready (now form) (now room) ch (e .expr) × (nest < 65) ⌝ }
+    ensures { λ r. ⌜ r ≡ candidate (now (form .entry)) (now (room .entry)) key nest e ⌝ }
+{
+    if e.print != low_print(key) {
+        return false;
+    }
+    if wide(e.height) + nest <= 65 {
+        return store::print_node(form, room, ch, wide(e.expr)) == key;
+    }
+    false
+}
+
+// The place of the first candidate found alike with n; `used` where none is.
 fn find<'a>(
     form: &'a [u8],
     room: &'a [u8],
@@ -155,36 +177,32 @@ fn find<'a>(
     nest: usize,
 ) -> usize
     requires { ⌜ Ready (now form) (now room) (w .ch) n × Sounds (now form) (now room) (w .ch) (w .mark) used (now row) × (nest < 65) ⌝ }
-    ensures { λ r. ⌜ Found (now (form .entry)) (now (room .entry)) n nest used (now (row .entry)) r ⌝ }
+    ensures { λ r. ⌜ r ≡ first-hit (now (form .entry)) (now (room .entry)) (now (row .entry)) n nest used look-limit 0 ⌝ }
 {
     let ch = w.ch;
     let key = store::print_node(form, room, ch, n);
-    let low = low_print(key);
     let mut left: usize = LOOKS;
     let mut i: usize = 0;
     while i < used {
         let e = entry_at(row, i);
-        if e.print == low {
-            let x = wide(e.expr);
-            if wide(e.height) + nest <= 65 {
-                if store::print_node(form, room, ch, x) == key {
-                    let v = alike(form, room, x, n, DEEP, left);
-                    if v.same {
-                        return i;
-                    }
-                    left = v.left;
-                }
+        if is_candidate(form, room, ch, e, key, nest) {
+            let v = alike(form, room, wide(e.expr), n, DEEP, left);
+            if v.same {
+                return i;
             }
+            left = v.left;
+            i += 1;
+        } else {
+            i += 1;
         }
-        i += 1;
     }
     used
 }
 
 // A hit charges what the entry says; where that would cross a limit the call is to be worked afresh.
-fn charged<'a>(form: &'a [u8], room: &'a [u8], w: Work, e: Entry, n: usize, nest: usize) -> Answer
-    requires { ⌜ Ready (now form) (now room) (w .ch) n × Sound (now form) (now room) (w .ch) (w .mark) e × Matches (now form) (now room) n nest e × (w .passes ≤ pass-limit) ⌝ }
-    ensures { λ r. ⌜ AnswerOk (now (form .entry)) (now (room .entry)) w n nest r ⌝ }
+fn charged(w: Work, e: Entry) -> Answer
+    requires { ⌜ (w .ch .units ≤ unit-limit) × (w .passes ≤ pass-limit) ⌝ }
+    ensures { λ r. ⌜ r ≡ hit-says w e ⌝ }
 {
     let c = w.ch;
     let units = c.units + wide(e.units);
@@ -228,14 +246,14 @@ pub fn lookup<'a>(
     nest: usize,
 ) -> Answer
     requires { ⌜ Ready (now form) (now room) (w .ch) n × Sounds (now form) (now room) (w .ch) (w .mark) used (now row) × (nest < 65) × (w .passes ≤ pass-limit) ⌝ }
-    ensures { λ r. ⌜ AnswerOk (now (form .entry)) (now (room .entry)) w n nest r ⌝ }
+    ensures { λ r. ⌜ Looked (now (form .entry)) (now (room .entry)) (now (row .entry)) w used n nest r ⌝ }
 {
     let i = find(form, room, row, w, used, n, nest);
     if used <= i {
         return Answer::Unknown;
     }
     let e = entry_at(row, i);
-    charged(form, room, w, e, n, nest)
+    charged(w, e)
 }
 
 // ---- storing
@@ -270,7 +288,7 @@ pub fn store<'a>(
     nest: usize,
 ) -> State
     requires { ⌜ Valid (now form) (now room) (now row) st × Ended (now form) (now room) b (st .w) n r nest ⌝ }
-    ensures { λ q. ⌜ Kept (now (form .entry)) (now (room .entry)) (now (row .exit)) st q ⌝ }
+    ensures { λ q. ⌜ Stored (now (form .entry)) (now (room .entry)) (now (row .entry)) (now (row .exit)) st b n r nest q ⌝ }
 {
     let k = st.used;
     let a = st.w;

@@ -18,11 +18,11 @@ use Rattle.store.specs.Cells.{cellAt, bytesAt, sameAt, Room}
 use Rattle.store.specs.Nodes.{treeAt, printOf}
 use Rattle.store.specs.Store.{Ready}
 use Rattle.store.specs.Makers.{Grown, Answered, Joins}
-use Rattle.store.proofs.Ready.{Same, same, room, look-atom, ready-left, ready-right, grown-none, grown-both, grown-ready, grown-tree}
+use Rattle.store.proofs.Ready.{Same, same, room, ready-left, ready-right, grown-none, grown-both, grown-ready, grown-tree}
 use Rattle.store.proofs.Trees.{cell-below, tree-pair, tree-atom}
 use Rattle.sexp.specs.declared.Compared.{Compared}
 use Rattle.sexp.specs.declared.Compared.the-variants.{Told, Parts}
-use Rattle.sexp.specs.Canon.{Canon, Alike, BothPairs, ComparedOk}
+use Rattle.sexp.specs.Canon.{Canon, Alike, BothPairs, of-cells, compared}
 
 -- ---- bytes
 
@@ -116,30 +116,52 @@ canon-falls f s c x a t k e = let o : a ≤ x = k .below in omega arith
 -- ---- compare_records: two nodes, and what was looked up there
 
 module _ (f s : List ℕ) (a b : ℕ) (p q : Cell) (ep : p ≡ cellAt s a) (eq : q ≡ cellAt s b) where
-  pub told-pair-atom : (l r : ℕ) → p ≡ Pair l r → q ≡ Atom → ComparedOk f s a b (Told false)
-  unfolding ComparedOk
-  told-pair-atom l r pp pq = rw (tree-pair f s a l r (sym ep ∙ pp), look-atom f s b q eq pq)
+  pub told-pair-atom : (l r : ℕ) → p ≡ Pair l r → q ≡ Atom → Told false ≡ compared f s a b
+  unfolding compared
+  told-pair-atom l r pp pq = rw (← ep, ← eq, pp, pq)
 
-  pub told-atom-pair : (l r : ℕ) → p ≡ Atom → q ≡ Pair l r → ComparedOk f s a b (Told false)
-  unfolding ComparedOk
-  told-atom-pair l r pp pq = rw (look-atom f s a p ep pp, tree-pair f s b l r (sym eq ∙ pq))
+  pub told-atom-pair : (l r : ℕ) → p ≡ Atom → q ≡ Pair l r → Told false ≡ compared f s a b
+  unfolding compared
+  told-atom-pair l r pp pq = rw (← ep, ← eq, pp, pq)
 
-  pub told-atoms : (u : Bool) → u ≡ same-bytes (bytesAt f s a) (bytesAt f s b) → p ≡ Atom → q ≡ Atom → ComparedOk f s a b (Told u)
-  unfolding ComparedOk
-  told-atoms u e pp pq = rw (look-atom f s a p ep pp, look-atom f s b q eq pq) e
+  pub told-atoms : (u : Bool) → u ≡ same-bytes (bytesAt f s a) (bytesAt f s b) → p ≡ Atom → q ≡ Atom → Told u ≡ compared f s a b
+  unfolding compared
+  told-atoms u e pp pq = rw (← ep, ← eq, pp, pq, e)
 
-  pub told-parts : (l r m n : ℕ) → p ≡ Pair l r → q ≡ Pair m n → ComparedOk f s a b (Parts l r m n)
-  unfolding ComparedOk
-  told-parts l r m n pp pq = record { one = sym ep ∙ pp; other = sym eq ∙ pq }
+  pub told-parts : (l r m n : ℕ) → p ≡ Pair l r → q ≡ Pair m n → Parts l r m n ≡ compared f s a b
+  unfolding compared
+  told-parts l r m n pp pq = rw (← ep, ← eq, pp, pq)
+
+-- ---- what the records tell is right
+
+module _ (f s : List ℕ) (a b : ℕ) where
+  pub told-equal : (u : Bool) → compared f s a b ≡ Told u → u ≡ equal-to (treeAt f s a) (treeAt f s b)
+  unfolding compared equal-to
+  told-equal u e = go (cellAt s a) (cellAt s b) refl refl e
+    where
+      go : (p q : Cell) → cellAt s a ≡ p → cellAt s b ≡ q → of-cells (same-bytes (bytesAt f s a) (bytesAt f s b)) p q ≡ Told u → u ≡ equal-to (treeAt f s a) (treeAt f s b)
+      go (Pair l r) (Pair m n) ep eq e = cc
+      go (Pair l r) Atom ep eq e = rw (tree-pair f s a l r ep, tree-atom f s b eq) (cc)
+      go Atom (Pair m n) ep eq e = rw (tree-atom f s a ep, tree-pair f s b m n eq) (cc)
+      go Atom Atom ep eq e = rw (tree-atom f s a ep, tree-atom f s b eq) (cc)
+
+  pub parts-pairs : (l r m n : ℕ) → compared f s a b ≡ Parts l r m n → BothPairs s a b l r m n
+  unfolding compared
+  parts-pairs l r m n e = go (cellAt s a) (cellAt s b) refl refl e
+    where
+      go : (p q : Cell) → cellAt s a ≡ p → cellAt s b ≡ q → of-cells (same-bytes (bytesAt f s a) (bytesAt f s b)) p q ≡ Parts l r m n → BothPairs s a b l r m n
+      go (Pair l₁ r₁) (Pair m₁ n₁) ep eq e = record { one = ep ∙ cc; other = eq ∙ cc }
+      go (Pair l₁ r₁) Atom ep eq e = record { one = cc; other = cc }
+      go Atom (Pair m₁ n₁) ep eq e = record { one = cc; other = cc }
+      go Atom Atom ep eq e = record { one = cc; other = cc }
 
 -- ---- equal_records
 
 pair-not-atom : (l r : Tree) (b : List ℕ) → pair l r ≡ atom b → ⊥
 pair-not-atom l r b e = let z : _≡_ {A = ℕ} 0 1 = cc in omega arith
 
-pub told : (f s : List ℕ) (c : Charges) (a b : ℕ) (z : Compared) (u : Bool) → z ≡ Told u → ComparedOk f s a b z → Ready f s c a → Answered f s s c u (equal-to (treeAt f s a) (treeAt f s b))
-unfolding ComparedOk
-told f s c a b z u e k ra = record { answer = rw e at k; grown = grown-none f s c (ra .held) }
+pub told : (f s : List ℕ) (c : Charges) (a b : ℕ) (z : Compared) (u : Bool) → z ≡ Told u → z ≡ compared f s a b → Ready f s c a → Answered f s s c u (equal-to (treeAt f s a) (treeAt f s b))
+told f s c a b z u e k ra = record { answer = told-equal f s a b u (sym k ∙ e); grown = grown-none f s c (ra .held) }
 
 -- trees whose fingerprints differ
 pub prints-tell : (f s : List ℕ) (c : Charges) (a b : ℕ) (u : Bool) → u ≡ not (eqb (printOf (treeAt f s a)) (printOf (treeAt f s b))) → u ≡ true → Ready f s c a → Answered f s s c false (equal-to (treeAt f s a) (treeAt f s b))
@@ -154,10 +176,9 @@ prints-tell f s c a b u eu o ra = record { answer = go (equal-to (treeAt f s a) 
         sym n ∙ p
     go false e = refl
 
-module _ (f s : List ℕ) (a b l r m n : ℕ) (z : Compared) (e : z ≡ Parts l r m n) (k : ComparedOk f s a b z) where
+module _ (f s : List ℕ) (a b l r m n : ℕ) (z : Compared) (e : z ≡ Parts l r m n) (k : z ≡ compared f s a b) where
   pairs : BothPairs s a b l r m n
-  unfolding ComparedOk
-  pairs = rw e at k
+  pairs = parts-pairs f s a b l r m n (sym k ∙ e)
 
   pub left-falls : (t : ℕ) → a + a ≡ t → l + l + 1 < t
   left-falls t et = let o : l < a = cell-below s a l r (pairs .one) .fallLeft in omega arith

@@ -17,7 +17,7 @@ ghost use Rattle.store.specs.Store.{Ready};
 ghost use Rattle.store.specs.Makers.{MadeOk, Answered, Grown};
 ghost use Rattle.sexp.specs.Tests.{is-byte-tree, is-nil};
 ghost use Rattle.sexp.specs.Lists.{enlist-onto, Items};
-ghost use Rattle.sexp.specs.Canon.{Canon, Alike, ComparedOk};
+ghost use Rattle.sexp.specs.Canon.{Canon, Alike, compared};
 
 // ---- tests
 
@@ -164,7 +164,7 @@ pub fn same_atoms<'a>(form: &'a [u8], room: &'a [u8], a: usize, b: usize) -> boo
 // Two nodes, their parts aside.
 pub fn compare_records<'a>(form: &'a [u8], room: &'a [u8], a: usize, b: usize) -> Compared
     requires { ⌜ Room (now room) a × Room (now room) b ⌝ }
-    ensures { λ r. ⌜ ComparedOk (now (form .entry)) (now (room .entry)) a b r ⌝ }
+    ensures { λ r. ⌜ r ≡ compared (now (form .entry)) (now (room .entry)) a b ⌝ }
 {
     match store::look_node(room, a) {
         Cell::Pair(al, ar) => match store::look_node(room, b) {

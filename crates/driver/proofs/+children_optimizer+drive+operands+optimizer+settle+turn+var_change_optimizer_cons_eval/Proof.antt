@@ -200,7 +200,7 @@ pub +children-optimizer+drive+operands+optimizer+settle+turn+var-change-optimize
     (λ c κs. (keeping.turn-valid _ _ _ _ _ _ (c .before .before .finish .ensures) (search needs) (c .before .before .before .before .before .before .before .before .before .turn .ensures .1), keeping.end-ended _ _ _ _ _ _ _ _ _ _ (c .before .before .before .before .before .before .before .before .before .before .before .before .loop .inv .0) _ _ (c .before .before .before .before .before .before .before .before .before .turn .ensures .0) (search needs) _ (c .before .before .finish .ensures)))  -- drive-store-requires
     (λ c. (c .before .before .before .before .before .before .before .before .before .before .before .turn .kept .1 .0) ∙ looping.loop-long _ _ _ _ _ _ _ _ _ _ (c .before .before .before .before .before .before .before .before .before .before .before .before .before .before .loop .inv .0))  -- drive-same-length-5
     (λ c. (c .before .store .kept .1 .1 .0) ∙ (c .before .before .before .before .before .before .before .before .before .before .before .turn .kept .1 .1 .0) ∙ (c .before .before .before .before .before .before .before .before .before .before .before .before .before .before .loop .inv .2))  -- drive-same-length-6
-    (λ c. (keeping.end-stored _ _ _ _ _ _ _ _ _ _ (c .before .before .before .before .before .before .before .before .before .before .before .before .before .before .loop .inv .0) _ _ (c .before .before .before .before .before .before .before .before .before .before .before .turn .ensures .0) (search needs) _ (c .before .before .before .before .finish .ensures) _ _ _ (c .before .store .ensures), keeping.stored-still _ _ _ _ _ (c .before .store .ensures))))  -- drive-returns-4
+    (λ c. (keeping.end-stored _ _ _ _ _ _ _ _ _ _ (c .before .before .before .before .before .before .before .before .before .before .before .before .before .before .loop .inv .0) _ _ (c .before .before .before .before .before .before .before .before .before .before .before .turn .ensures .0) (search needs) _ (c .before .before .before .before .finish .ensures) _ _ _ (c .before .store .ensures .kept), keeping.stored-still _ _ _ _ _ (c .before .store .ensures .kept))))  -- drive-returns-4
     (λ t. operands-lts.spec (operands-rs t) (operands-at t) operands.Post operands-Inv-loop operands-μ-loop
     (λ c. (search chunk.chunk-starts, search needs, refl))  -- operands-loop-holds
     (λ c κs. search chunk.chunk-room)  -- operands-look-node-requires

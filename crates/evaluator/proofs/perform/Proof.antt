@@ -11,17 +11,23 @@ perform-spec =
     (λ c. search needs)  -- enum-told
     (λ c. search needs)  -- enum-told-2
     (λ c κs. search needs)  -- choose-requires
+    (λ c κs. search needs)  -- answered-requires
     (λ c. search needs)  -- enum-told-3
     (λ c κs. search needs)  -- cons-requires
+    (λ c κs. search needs)  -- answered-requires-2
     (λ c. search needs)  -- enum-told-4
     (λ c κs. search needs)  -- first-requires
+    (λ c κs. search needs)  -- answered-requires-3
     (λ c. search needs)  -- enum-told-5
     (λ c κs. search needs)  -- rest-requires
+    (λ c κs. search needs)  -- answered-requires-4
     (λ c. search needs)  -- enum-told-6
     (λ c κs. search needs)  -- listp-requires
+    (λ c κs. search needs)  -- answered-requires-5
     (λ c. search needs)  -- enum-told-7
     (λ c. search needs)  -- enum-told-8
     (λ c κs. search needs)  -- same-requires
+    (λ c κs. search needs)  -- answered-requires-6
     (λ c. search operators.performs-apply)  -- returns
     (λ c. search needs)  -- same-length
     (λ c. search operators.performs-choose)  -- returns-2
