@@ -67,9 +67,10 @@ const FORM: usize = 8192;
 
 const ATOM: usize = 64;
 
+// A short form's bytes, and so the pairs that may wait in it.
 const FEW: usize = 512;
 
-// No node.
+// A pair that waits for its left part: no node has this number.
 const OPEN: u16 = 0xffff;
 
 // ---- the prefix of an atom

@@ -13,7 +13,7 @@ use Rattle.store.specs.declared.Made.{Made}
 use Rattle.store.specs.declared.Made.the-variants.{Node, Refused}
 use Rattle.store.specs.Nodes.{treeAt}
 use Rattle.store.specs.Store.{Held, Ready}
-use Rattle.store.specs.Makers.{Grown, Stands, Bought, Over, MadeOk}
+use Rattle.store.specs.Makers.{Stands, Bought, Over, MadeOk}
 use Rattle.store.proofs.Ready.{grown-none, grown-both, grown-ready, grown-tree}
 use Rattle.store.proofs.Charging.{made-node, made-over}
 use Rattle.sexp.specs.Lists.{enlist-onto, Items}
