@@ -18,7 +18,7 @@
  *     with length 0 it is never followed and may be null;
  *   - report points to a whole report, aligned as its type is; it is never null;
  *   - room, out and *report do not overlap each other, and none overlaps the form or text; no other thread uses them during the call;
- *   - the calling thread has 4 MiB of stack left (README.md says what was measured).
+ *   - the calling thread has 2 MiB of stack left (README.md says what was measured).
  * There is no state between calls, nothing is allocated, and threads may call at once with room of their own. */
 #ifndef UMLAZGRIN_H
 #define UMLAZGRIN_H

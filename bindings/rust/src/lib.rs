@@ -2,8 +2,8 @@
 //! notation, each proved in Rattle to meet its contract, as a safe Rust library.
 //!
 //! [`Umlazgrin`] owns the working room and an output and hands out owned answers; [`lent`] has the functions on slices that
-//! the caller lends. Give a thread that calls them 4 MiB of stack: the most
-//! that a call was seen to take is under 2 MiB, which is all that Rust gives a thread by itself.
+//! the caller lends. Give a thread that calls them 2 MiB of stack, which is what Rust gives one by itself: the most that a call was
+//! seen to take is under 1.25 MiB.
 //!
 //! ```
 //! let mut u = umlazgrin::Umlazgrin::new();

@@ -78,5 +78,5 @@ fn deep_work() {
         assert_eq!(check(&right, &mut room), Ok(4095 * 8));
         assert_eq!(optimise(&without_end(61), &mut room, &mut out), Err(Refusal::StepsOut));
     };
-    std::thread::Builder::new().stack_size(4 << 20).spawn(work).unwrap().join().unwrap();
+    std::thread::Builder::new().stack_size(2 << 20).spawn(work).unwrap().join().unwrap();
 }
