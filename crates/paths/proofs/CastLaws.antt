@@ -1,21 +1,22 @@
 -- The loops of casts.rs: what each has done at index i, at its start, after one turn more, and at its end. Assumes nothing.
-use Prim.Native.Nat.{ℕ, suc, _+_, _-_, _≤_, _<_}
+use Prim.Native.Nat.{ℕ, zero, suc, _+_, _-_, _*_, _^_, _≤_, _<_}
 use mathlib.Core.Path.{_≡_, refl, sym, _∙_, ap}
 use mathlib.Core.List.{List, [], _∷_}
-use mathlib.Core.Bool.{false, and-false}
+use mathlib.Core.Bool.{true, false, and-false}
 use native.Mathlib.Nat.{le-of-eq}
 use native.Mathlib.Numerals.{add-one}
 use native.Mathlib.Omega.{arith}
 use borrow.Author.Tests.{le-leb, lt-leb, eq-eqb, ne-eqb}
 use lib.Dec.{leb, eqb}
 use lib.ListN.{length, take, drop, getD, set, replicate, length-set, length-drop}
-use lib.Seq.{drop-cons, take-all}
-use Rattle.meaning.specs.Number.{number, number-from, bigint-from-bytes, shortest-signed, negative}
+use lib.Seq.{drop-cons, drop-drop, take-all, take-suc}
+use Rattle.meaning.specs.Number.{number, number-from, bigint-from-bytes, shortest-signed, negative, bytes-of}
 use Rattle.paths.specs.Fours.{turned}
-use Rattle.paths.specs.Wide.{Wide, Shortest, Holds}
+use Rattle.paths.specs.Wide.{Wide, Zeros, Shortest, Holds}
 use Rattle.paths.specs.declared.casts.Number.{Number}
 use Rattle.paths.proofs.FourLaws.{bigint-turned, length-turned}
-use Rattle.paths.proofs.NumberLaws.{upto-suc, upto-set, upto-all, upto-zeros}
+use Rattle.paths.proofs.NumberLaws.{Bytes, number-lt, upto-suc, upto-set, upto-all, upto-zeros, split-at}
+use Rattle.paths.proofs.ShortestLaws.{number-bytes-of, zeros-number}
 
 -- ---- negative
 
@@ -77,14 +78,61 @@ fours-all b d h = let l = length-turned b in rw (bigint-turned b) (placing-all d
 
 -- ---- measured
 
-pub measured : {bs : List ℕ} {z : ℕ} → Shortest bs z → length bs ≡ 65 → Holds (number bs) (record { bytes = bs; len = 65 - z })
-measured {bs} {z} s w =
-    let l = s .within in
-    let e : 65 - (65 - z) ≡ z = omega arith in
-    record { wide = w; value = refl; within = omega arith; shown = rw e (s .shown) }
+-- the shortest bytes, looked for from index i on
+pub measured : {bs : List ℕ} {i z : ℕ} → Zeros bs i → Shortest (take (65 - i) (drop i bs)) z → length bs ≡ 65 → Holds (number bs) (record { bytes = bs; len = 65 - i - z })
+measured {bs} {i} {z} d s w =
+    let n = length-drop i bs in
+    let p : Shortest (drop i bs) z = rw (take-all (65 - i) (drop i bs) (omega arith)) at s in
+    let a = d .within in
+    let b = p .within in
+    let e : 65 - (65 - i - z) ≡ i + z = omega arith in
+    record { wide = w; value = refl; within = omega arith; shown = rw (e, ← drop-drop z i bs) (p .shown ∙ ap bytes-of (sym (zeros-number d))) }
 
 pub measured-as : {v : ℕ} {bs : List ℕ} {n : Number} → Wide v bs → Holds (number bs) n → Holds v n
 measured-as w h = rw (w .value) at h
+
+none-higher : (t p d v : ℕ) → v ≡ t * p + d → v < p → t ≡ 0
+none-higher zero p d v e h = refl
+none-higher (suc t) p d v e h = absurd (omega arith)
+
+-- a number of n bytes has zeros before these
+pub wide-zeros : {v n : ℕ} {r : List ℕ} → Wide v r → v < 256 ^ n → n ≤ 65 → Zeros r (65 - n)
+wide-zeros {v} {n} {r} w h l =
+    let k = w .wide in
+    let e : length r - (65 - n) ≡ n = omega arith in
+    let s : number r ≡ number (take (65 - n) r) * 256 ^ n + number (drop (65 - n) r) = split-at r (65 - n) ∙ rw e in
+    record { within = omega arith; none = none-higher (number (take (65 - n) r)) (256 ^ n) (number (drop (65 - n) r)) v (sym (w .value) ∙ s) h }
+
+pub placed-zeros : (b : List ℕ) {r : List ℕ} → Wide (number b) r → Bytes b → length b ≤ 65 → Zeros r (65 - length b)
+placed-zeros b w h l = wide-zeros w (number-lt b h) l
+
+-- ---- same_number
+
+-- the first i of the shortest bytes are the same
+pub record Alike (x y : List ℕ) (i : ℕ) : Type 0 where
+  pub within : i ≤ length x
+  pub done : take i x ≡ take i y
+
+pub alike-none : {x y : List ℕ} → Alike x y 0
+alike-none = record { within = omega arith; done = refl }
+
+pub alike-more : {x y : List ℕ} {i : ℕ} → Alike x y i → i < length x → length x ≡ length y → getD x i 0 ≡ getD y i 0 → Alike x y (i + 1)
+alike-more {x} {y} {i} d h l e = record { within = omega arith; done = rw (add-one, take-suc x i 0 h, take-suc y i 0 (omega arith), d .done, e) }
+
+module _ (a b : List ℕ) {x y : List ℕ} (u : x ≡ bytes-of (number a)) (v : y ≡ bytes-of (number b)) where
+  pub alike-all : {i : ℕ} → Alike x y i → length x ≤ i → length x ≡ length y → true ≡ eqb (number a) (number b)
+  alike-all {i} d h l =
+      let e : x ≡ y = sym (take-all i x h) ∙ d .done ∙ take-all i y (omega arith) in
+      sym (eq-eqb (number a) (number b) (sym (number-bytes-of (number a)) ∙ ap number (sym u ∙ e ∙ v) ∙ number-bytes-of (number b)))
+
+  differ : (x ≡ y → ⊥) → false ≡ eqb (number a) (number b)
+  differ h = sym (ne-eqb (number a) (number b) (λ e. h (u ∙ ap bytes-of e ∙ sym v)))
+
+  pub alike-not : {i : ℕ} → Alike x y i → (getD x i 0 ≡ getD y i 0 → ⊥) → false ≡ eqb (number a) (number b)
+  alike-not {i} d h = differ (λ e. h (ap (λ l. getD l i 0) e))
+
+  pub alike-short : (length x ≡ length y → ⊥) → false ≡ eqb (number a) (number b)
+  alike-short h = differ (λ e. h (ap length e))
 
 -- ---- shortest_signed
 

@@ -1,25 +1,28 @@
--- A composed path is a shift and the lower bits. Assumes nothing.
+-- A composed path is a shift and the lower bits, and how two bytes of the first path become it. Assumes nothing.
 use Prim.Native.Nat.{ℕ, suc, _+_, _-_, _*_, _/_, _%_, _^_, _≤_, _<_}
 use mathlib.Core.Path.{_≡_, sym, _∙_, ap, ap₂}
-use mathlib.Core.List.{List, _∷_}
-use mathlib.Core.Bool.{Bool, true, false}
-use Rattle.meaning.specs.Number.{number}
-use native.Mathlib.Nat.{pow-suc, pow-succ', mod-one, mod-lt, div-one, div-div-eq-div-mul, le-div-iff-mul-le, mul-le-mul-right}
+use mathlib.Core.List.{List, [], _∷_}
+use mathlib.Core.Bool.{Bool}
+use native.Mathlib.Nat.{pow-succ', mod-one, mod-lt}
 use native.Mathlib.Numerals.{add-one}
 use native.Mathlib.Omega.{arith}
-use borrow.Author.Tests.{eqb-true, eqb-false, ltb-true, ltb-false}
-use lib.Arith.{bin-ind}
-use lib.Bits.{bitAnd, bitOr, and-mask, or-shifted}
-use lib.Dec.{eqb, ltb}
-use lib.ListN.{length}
-use lib.Pow.{mod-pow-add, pow-pos}
+use borrow.Author.Tests.{eqb-true, eqb-false}
+use lib.Arith.{bin-ind, digits-div, digits-mod}
+use lib.Bits.{bitAnd, bitOr, and-mask, mask-lt, or-shifted}
+use lib.Dec.{eqb}
+use lib.ListN.{length, take, drop, getD, set, length-drop, length-set}
+use lib.Pow.{mod-pow-add, pow-add, pow-pos, shl-exact}
+use lib.Seq.{take-set-le, drop-cons, drop-drop, getD-drop}
 use mir.Syntax.{w8}
 use mir.Val.{Fits}
 use Rattle.meaning.proofs.Tests.{on-bool}
-use Rattle.meaning.specs.Number.{turns, onto, compose-paths}
-use Rattle.paths.specs.Wide.{Wide, Holds}
+use Rattle.meaning.specs.Number.{number, number-from, turns, onto, compose-paths}
+use Rattle.paths.specs.Wide.{Zeros, Shortest, Holds}
 use Rattle.paths.specs.declared.casts.Number.{Number}
-use Rattle.paths.proofs.TurnLaws.{small-or, turns-none, turns-step, count-none, count-step}
+use Rattle.paths.proofs.NumberLaws.{Bytes, on-lt, number-lt, bytes-drop, upto-suc, from-at, from-set, powers}
+use Rattle.paths.proofs.ShortestLaws.{held-len, shortest-first, shortest-number, shortest-zeros, zeros-number}
+use Rattle.paths.proofs.SizeLaws.{bytes-of-bytes, bytes-long, long-bytes}
+use Rattle.paths.proofs.TurnLaws.{small-or, turns-none, turns-step, count-below, count-number}
 
 onto-bit : (n : ℕ) (ds : List Bool) (q : ℕ) → onto (eqb (n % 2) 1 ∷ ds) q ≡ 2 * onto ds q + n % 2
 unfolding onto
@@ -48,85 +51,160 @@ compose-shifted p q = bin-ind Shifted (none 0 (omega arith)) step p
         let s : q * 2 ^ suc k ≡ q * (2 * 2 ^ k) = ap (q *_) (pow-succ' 2 k) in
         rw (turns-step n h) (onto-bit n (turns (n / 2)) q ∙ omega arith))
 
--- ---- the loop of `compose_paths`: after k moves
+-- a path with the byte x above w others, which make l
+composed-at : (w x l q : ℕ) → length (turns (x * 256 ^ w + l)) ≡ w * 8 + length (turns x) → l < 256 ^ w
+    → compose-paths (x * 256 ^ w + l) q ≡ (q * 2 ^ length (turns x) + x % 2 ^ length (turns x)) * 256 ^ w + l
+composed-at w x l q k h =
+    let n = x * 256 ^ w + l in
+    let s = length (turns x) in
+    let e : w * 8 + s ≡ s + 8 * w = omega arith in
+    let p : 2 ^ (s + 8 * w) ≡ 2 ^ s * 256 ^ w = pow-add 2 s (8 * w) ∙ ap (2 ^ s *_) (sym (powers w)) in
+    let d : n / 2 ^ (8 * w) ≡ x = ap (n /_) (sym (powers w)) ∙ digits-div x h in
+    let m : n % 2 ^ (8 * w) ≡ l = ap (n %_) (sym (powers w)) ∙ digits-mod x h in
+    let r : n % 2 ^ (s + 8 * w) ≡ x % 2 ^ s * 256 ^ w + l = mod-pow-add n s (8 * w) ∙ ap₂ (λ a b. a % 2 ^ s * 2 ^ (8 * w) + b) d m ∙ ap (λ t. x % 2 ^ s * t + l) (sym (powers w)) in
+    compose-shifted n q ∙ ap (λ c. q * 2 ^ c + n % 2 ^ c) (k ∙ e) ∙ ap₂ (λ a b. q * a + b) p r ∙ grouped q (2 ^ s) (x % 2 ^ s) (256 ^ w) l
+  where
+    grouped : (q a b p l : ℕ) → q * (a * p) + (b * p + l) ≡ (q * a + b) * p + l
+    grouped q a b p l = omega arith
 
-pub record Moved (p q : ℕ) (high mask temp : List ℕ) : Type 0 where
-  pub moves : ℕ
-  pub high-is : Wide (q * 2 ^ moves) high
-  pub mask-is : Wide (2 ^ moves) mask
-  pub temp-is : Wide (p / 2 ^ moves) temp
-  pub left : length (turns p) ≡ moves + length (turns (p / 2 ^ moves))
+-- ---- joined
 
-pub moved-none : {p q : ℕ} {high mask temp : List ℕ} → Wide q high → Wide 1 mask → Wide p temp → Moved p q high mask temp
-moved-none {p} {q} h m t = record {
-  moves = 0;
-  high-is = record { wide = h .wide; value = h .value ∙ omega arith };
-  mask-is = m;
-  temp-is = record { wide = t .wide; value = t .value ∙ sym (div-one p) };
-  left = rw (div-one p) (omega arith);
-}
+one-moved : (n : ℕ) → n < 8 → 1 * 2 ^ n % 2 ^ 16 ≡ 2 ^ n
+one-moved n h = shl-exact 1 n 16 (omega arith) (omega arith) ∙ omega arith
 
-module _ {p q : ℕ} {high mask temp : List ℕ} (m : Moved p q high mask temp) where
-  abbrev k : ℕ
-  k = m .moves
+pub some-moved : (n : ℕ) → n < 8 → 1 ≤ 1 * 2 ^ n % 2 ^ 16
+some-moved n h = let p = pow-pos n in let e = one-moved n h in omega arith
 
-  two : {t : Bool} → t ≡ ltb 1 (number temp) → t ≡ true → 2 ≤ p / 2 ^ k
-  two e t =
-      let l : 1 < number temp = ltb-true 1 (number temp) (sym e ∙ t) in
-      let v : number temp ≡ p / 2 ^ k = m .temp-is .value in
+pub moved-in : (q x n : ℕ) → n < 8 → Fits w8 q → bitOr (q * 2 ^ n % 2 ^ 16) (bitAnd x (1 * 2 ^ n % 2 ^ 16 - 1)) ≡ q * 2 ^ n + x % 2 ^ n
+moved-in q x n h f =
+    let e : q * 2 ^ n % 2 ^ 16 ≡ q * 2 ^ n = shl-exact 8 n 16 (f .fits) (omega arith) in
+    ap₂ (λ a m. bitOr a (bitAnd x (m - 1))) e (one-moved n h) ∙ ap (bitOr (q * 2 ^ n)) (and-mask x n) ∙ or-shifted q n (x % 2 ^ n) (mod-lt x (pow-pos n))
+
+-- ---- compose_paths
+
+pub low-byte : (both : ℕ) → Fits w8 (bitAnd both 255)
+low-byte both = record { fits = mask-lt both 8 }
+
+-- a number without bytes is 0
+none-held : {p : Number} → Holds (number (p .bytes)) p → p .len ≡ 0 → number (p .bytes) ≡ 0
+none-held {p} h e =
+    let l = held-len h in
+    on-lt 0 (number (p .bytes)) (λ k. let m = long-bytes (number (p .bytes)) 0 (omega arith) in absurd (omega arith)) (λ k. omega arith)
+
+-- "compose(0, 2) = 2"
+pub composed-none : {p : Number} (q : ℕ) {n : Number} → Holds (number (p .bytes)) p → p .len ≡ 0 → Holds (number (q ∷ [])) n → Holds (compose-paths (number (p .bytes)) q) n
+unfolding compose-paths onto number number-from
+composed-none {p} q h e r =
+    let z = none-held h e in
+    let f : q ≡ 0 * 256 + q = omega arith in
+    rw (turns-none (number (p .bytes)) (omega arith), f) r
+
+-- two bytes are set, at an index and before it
+abbrev pub twice : List ℕ → ℕ → ℕ → ℕ → List ℕ
+twice bs at x y = set (set bs at x) (at - 1) y
+
+-- and nothing stands before these
+module _ (bs : List ℕ) (at x y : ℕ) (w : length bs ≡ 65) (d : Zeros bs at) (l : 1 ≤ at) (k : at < 65) where
+  place : at - 1 + 1 ≡ at
+  place = omega arith
+
+  once-wide : length (set bs at x) ≡ 65
+  once-wide = length-set bs at x ∙ w
+
+  none-before : number (take (at - 1) bs) ≡ 0
+  none-before =
+      let u : number (take at bs) ≡ number (take (at - 1) bs) * 256 + getD bs (at - 1) 0 = ap (λ n. number (take n bs)) (sym place) ∙ upto-suc bs (at - 1) (omega arith) in
+      let z = d .none in
       omega arith
 
-  next-half : p / 2 ^ k / 2 ≡ p / 2 ^ suc k
-  next-half = div-div-eq-div-mul p (2 ^ k) 2 ∙ ap (p /_) (sym (pow-suc 2 k))
-
-  -- one move more
-  pub moved-more : {high′ mask′ temp′ : List ℕ} {t : Bool} → t ≡ ltb 1 (number temp) → t ≡ true
-      → Wide (2 * number high) high′ → Wide (2 * number mask) mask′ → Wide (number temp / 2) temp′ → Moved p q high′ mask′ temp′
-  moved-more e t h w u = record {
-    moves = suc k;
-    high-is = record { wide = h .wide; value = let s : q * 2 ^ suc k ≡ q * (2 * 2 ^ k) = ap (q *_) (pow-succ' 2 k) in omega arith };
-    mask-is = record { wide = w .wide; value = omega arith };
-    temp-is = record { wide = u .wide; value = u .value ∙ ap (_/ 2) (m .temp-is .value) ∙ next-half };
-    left = let c = count-step (p / 2 ^ k) (two e t) in rw (← next-half) (omega arith);
+  twice-zeros : Zeros (twice bs at x y) (at - 1)
+  twice-zeros = record {
+    within = let e = length-set (set bs at x) (at - 1) y in let f = once-wide in omega arith;
+    none = ap number (take-set-le (at - 1) (set bs at x) (at - 1) y (omega arith) ∙ take-set-le (at - 1) bs at x (omega arith)) ∙ none-before;
   }
 
-  pub moved-less : {temp′ : List ℕ} {t : Bool} → t ≡ ltb 1 (number temp) → t ≡ true → Wide (number temp / 2) temp′ → number temp′ < number temp
-  moved-less e t u = let l : 1 < number temp = ltb-true 1 (number temp) (sym e ∙ t) in omega arith
+  lower : number (drop at (set bs at x)) ≡ x * 256 ^ (64 - at) + number (drop (at + 1) bs)
+  lower = let e : length bs - (at + 1) ≡ 64 - at = omega arith in from-set bs at x (omega arith) ∙ rw e
 
-  -- what is moved once more still fits, whatever the width
-  module _ (w : ℕ) {t : Bool} (e : t ≡ ltb 1 (number temp)) (h : t ≡ true) (l : p < 256 ^ w) where
-    top-bit : 2 * 2 ^ k ≤ p
-    top-bit = le-div-iff-mul-le (pow-pos k) .0 (two e h)
+  upper : number (twice bs at x y) ≡ y * 256 ^ (65 - at) + number (drop at (set bs at x))
+  upper = let e = once-wide in zeros-number twice-zeros ∙ from-set (set bs at x) (at - 1) y (omega arith) ∙ rw (e, place)
 
-    high-fits : q < 256 → 2 * number high < 256 ^ suc w
-    high-fits x =
-        let b = top-bit in
-        let y : q * (2 * 2 ^ k) ≤ 256 * (2 * 2 ^ k) = mul-le-mul-right (2 * 2 ^ k) (omega arith) in
-        rw (pow-succ' 256 w) (omega arith)
+  number-twice : (both : ℕ) → y * 256 + x ≡ both → number (twice bs at x y) ≡ both * 256 ^ (64 - at) + number (drop (at + 1) bs)
+  number-twice both s =
+      let e : 65 - at ≡ suc (64 - at) = omega arith in
+      let f : 256 ^ (65 - at) ≡ 256 * 256 ^ (64 - at) = ap (256 ^_) e ∙ pow-succ' 256 (64 - at) in
+      upper ∙ ap₂ (λ u t. y * u + t) f lower ∙ summed (256 ^ (64 - at)) (number (drop (at + 1) bs)) ∙ ap (λ t. t * 256 ^ (64 - at) + number (drop (at + 1) bs)) s
+    where
+      summed : (p v : ℕ) → y * (256 * p) + (x * p + v) ≡ (y * 256 + x) * p + v
+      summed p v = omega arith
 
-    mask-fits : 2 * number mask < 256 ^ suc w
-    mask-fits = let b = top-bit in rw (pow-succ' 256 w) (omega arith)
+not-both : (m k : ℕ) → m < k → k ≤ m → ⊥
+not-both m k l h = omega arith
 
-  pub high-moves : {t : Bool} → t ≡ ltb 1 (number temp) → t ≡ true → p < 256 ^ 64 → Fits w8 q → (length high ≡ 65) × (2 * number high < 256 ^ 65)
-  high-moves e h l x = (m .high-is .wide, high-fits 64 e h l (x .fits))
+module _ {p : Number} (h : Holds (number (p .bytes)) p) (o : p .len ≡ 0 → ⊥) where
+  abbrev bs : List ℕ
+  bs = p .bytes
 
-  pub mask-moves : {t : Bool} → t ≡ ltb 1 (number temp) → t ≡ true → p < 256 ^ 64 → (length mask ≡ 65) × (2 * number mask < 256 ^ 65)
-  mask-moves e h l = (m .mask-is .wide, mask-fits 64 e h l)
+  -- the byte that has the top bit
+  abbrev at : ℕ
+  at = 65 - p .len
 
-  pub mask-some : (length mask ≡ 65) × (1 ≤ number mask)
-  mask-some = (m .mask-is .wide, let b = pow-pos k in omega arith)
+  abbrev top : ℕ
+  top = getD bs at 0
 
-  -- no move is left: path_1 | (path_0 & (mask - 1))
-  pub composed : {mask′ r : List ℕ} {t : Bool} {n : Number} → t ≡ ltb 1 (number temp) → t ≡ false → Wide (number mask - 1) mask′
-      → Wide (bitOr (number high) (bitAnd p (number mask′))) r → Holds (number r) n → Holds (compose-paths p q) n
-  composed {mask′} e t w r n =
-      let l : number temp ≤ 1 = ltb-false 1 (number temp) (sym e ∙ t) in
-      let v : number temp ≡ p / 2 ^ k = m .temp-is .value in
-      let z = count-none (p / 2 ^ k) (omega arith) in
-      let c : length (turns p) ≡ k = omega arith in
-      let o : number mask′ ≡ 2 ^ k - 1 = omega arith in
-      let f : bitOr (number high) (bitAnd p (number mask′)) ≡ compose-paths p q =
-      ap₂ bitOr (m .high-is .value) (ap (bitAnd p) o ∙ and-mask p k)
-      ∙ or-shifted q k (p % 2 ^ k) (mod-lt p (pow-pos k))
-      ∙ sym (compose-shifted p q ∙ rw c) in
-      rw (r .value ∙ f) at n
+  shortest : Shortest bs at
+  shortest = let w = h .wide in record { within = omega arith; shown = h .shown }
+
+  before-end : at < 65
+  before-end = let l = h .within in omega arith
+
+  pub some-before : number bs < 256 ^ 64 → 1 ≤ at
+  some-before l = let e = held-len h in on-lt 64 (p .len) (λ k. absurd (not-both (number bs) (256 ^ 64) l (bytes-long (number bs) 64 (omega arith)))) (λ k. omega arith)
+
+  -- the shortest bytes are bytes
+  bytes-from : Bytes (drop at bs)
+  bytes-from = rw (h .shown) (bytes-of-bytes (number bs))
+
+  bytes-after : Bytes (drop (at + 1) bs)
+  bytes-after = rw (← drop-drop 1 at bs) (bytes-drop 1 (drop at bs) bytes-from)
+
+  pub top-few : {n : ℕ} → n ≡ length (turns top) → n < 8
+  top-few e =
+      let f : getD (drop at bs) 0 0 ≡ top = getD-drop at bs 0 0 ∙ ap (λ i. getD bs i 0) (omega arith) in
+      let c = count-below 7 top (rw f at (bytes-from 0 .fits)) in
+      omega arith
+
+  rest : length bs - (at + 1) ≡ 64 - at
+  rest = let w = h .wide in omega arith
+
+  low-less : number (drop (at + 1) bs) < 256 ^ (64 - at)
+  low-less = rw (length-drop, rest) at (number-lt (drop (at + 1) bs) bytes-after)
+
+  in-bytes : at < length bs
+  in-bytes = let w = h .wide in let b = before-end in omega arith
+
+  by-top : number bs ≡ top * 256 ^ (64 - at) + number (drop (at + 1) bs)
+  by-top = shortest-number shortest ∙ from-at bs at in-bytes ∙ rw rest
+
+  turns-by-top : length (turns (number bs)) ≡ (64 - at) * 8 + length (turns top)
+  turns-by-top =
+      let e : length (drop (at + 1) bs) ≡ 64 - at = length-drop (at + 1) bs ∙ rest in
+      ap (λ n. length (turns n)) (shortest-number shortest ∙ ap number (drop-cons bs at 0 in-bytes ∙ ap (λ i. top ∷ drop i bs) (sym (add-one at))))
+      ∙ count-number top (drop (at + 1) bs) (shortest-first shortest in-bytes) bytes-after
+      ∙ rw e
+
+  composed-by-top : (q : ℕ) → compose-paths (number bs) q ≡ (q * 2 ^ length (turns top) + top % 2 ^ length (turns top)) * 256 ^ (64 - at) + number (drop (at + 1) bs)
+  composed-by-top q =
+      ap (λ n. compose-paths n q) by-top ∙ composed-at (64 - at) top (number (drop (at + 1) bs)) q (ap (λ n. length (turns n)) (sym by-top) ∙ turns-by-top) low-less
+
+  module _ (l : number bs < 256 ^ 64) where
+    pub two-zeros : (x y : ℕ) → Zeros (twice bs at x y) (at - 1)
+    two-zeros x y = twice-zeros bs at x y (h .wide) (shortest-zeros shortest) (some-before l) before-end
+
+    pub two-composed : (q both : ℕ) {s : ℕ} {n : Number} → both ≡ q * 2 ^ s + top % 2 ^ s → s ≡ length (turns top) → Holds (number (twice bs at (bitAnd both 255) (both / 2 ^ 8))) n
+        → Holds (compose-paths (number bs) q) n
+    two-composed q both {s} e f n =
+        let b : bitAnd both 255 ≡ both % 2 ^ 8 = and-mask both 8 in
+        let g : both / 2 ^ 8 * 256 + bitAnd both 255 ≡ q * 2 ^ length (turns top) + top % 2 ^ length (turns top) =
+        ap (λ x. both / 2 ^ 8 * 256 + x) b ∙ (let c : both / 2 ^ 8 * 256 + both % 2 ^ 8 ≡ both = omega arith in c) ∙ e ∙ ap (λ k. q * 2 ^ k + top % 2 ^ k) f in
+        rw (number-twice bs at (bitAnd both 255) (both / 2 ^ 8) (h .wide) (shortest-zeros shortest) (some-before l) before-end _ g ∙ sym (composed-by-top q)) at n

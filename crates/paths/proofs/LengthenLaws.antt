@@ -1,28 +1,29 @@
 -- Paths over 64 bytes stay over 64 bytes, and shortest signed bytes have the same index. Assumes nothing.
-use Prim.Native.Nat.{ℕ, zero, suc, _+_, _*_, _-_, _/_, _%_, _^_, _≤_, _<_}
+use Prim.Native.Nat.{ℕ, _+_, _*_, _-_, _/_, _%_, _^_, _≤_, _<_}
 use native.Mathlib.Omega.{arith}
-use native.Mathlib.Nat.{mul-le-mul-right, pow-le-pow-right, div-add-mod'}
+use native.Mathlib.Nat.{mul-le-mul-right, div-add-mod'}
 use mathlib.Core.Path.{_≡_, refl, sym, _∙_, ap}
 use mathlib.Core.List.{List, [], _∷_}
 use mathlib.Core.Bool.{Bool, true, false, _&&_, not}
 use lib.Dec.{eqb, leb}
 use lib.ListN.{length, getD}
-use borrow.Author.Tests.{eq-eqb, ne-eqb, leb-true}
+use borrow.Author.Tests.{eq-eqb, leb-true}
 use Rattle.meaning.specs.Limits.{path-limit}
-use Rattle.meaning.specs.Number.{number, negative, node-path-index, bigint-from-bytes, shortest-signed, turns, compose-paths, bytes-onto, bytes-of}
+use Rattle.meaning.specs.Number.{number, negative, node-path-index, bigint-from-bytes, shortest-signed, turns, compose-paths, bytes-of}
 use Rattle.meaning.specs.Rules.{misread}
 use Rattle.meaning.proofs.Tests.{on-bool, and-inv, not-false}
 use Rattle.paths.specs.declared.casts.Number.{Number}
-use Rattle.paths.specs.declared.node_path.Lengthened.{Lengthened}
+use Rattle.paths.specs.declared.path_rule.Lengthened.{Lengthened}
 use Rattle.paths.specs.Fours.{turned}
-use Rattle.paths.specs.Wide.{Holds, Shortest, Longer}
-use Rattle.paths.proofs.NumberLaws.{Bytes, from-at, split-at, on-lt}
-use Rattle.paths.proofs.TurnLaws.{count-step, count-after, small-or}
-use Rattle.paths.proofs.ShortestLaws.{number-bytes-of, shortest-first, held-len}
-use Rattle.paths.proofs.FourLaws.{bigint-turned, length-turned, turned-before, turned-group}
-use Rattle.paths.proofs.SignedLaws.{index-negative, index-positive, number-below, index-below, number-moves}
-use Rattle.paths.proofs.ComposeLaws.{compose-shifted}
+use Rattle.paths.specs.Wide.{Holds, Longer}
 use Rattle.paths.specs.Lengthens.{Lengthens}
+use Rattle.paths.proofs.NumberLaws.{Bytes, on-lt}
+use Rattle.paths.proofs.SizeLaws.{large, bytes-of-bytes, long-bytes, bytes-long}
+use Rattle.paths.proofs.TurnLaws.{count-step, count-after, small-or}
+use Rattle.paths.proofs.ShortestLaws.{number-bytes-of, held-len}
+use Rattle.paths.proofs.FourLaws.{bigint-turned, length-turned, turned-before, turned-group}
+use Rattle.paths.proofs.SignedLaws.{index-negative, index-positive, bytes-signed, number-moves, index-moves}
+use Rattle.paths.proofs.ComposeLaws.{compose-shifted}
 
 -- ---- shortest signed bytes
 
@@ -48,35 +49,12 @@ index-shortest : (b : List ℕ) → negative b ≡ true → node-path-index (sho
 index-shortest b h =
     index-negative (shortest-signed b) refl (sign-kept b h) ∙ ap bigint-from-bytes (again b) ∙ sym (index-negative b refl h)
 
-bytes-shortest : (b : List ℕ) → Bytes b → Bytes (shortest-signed b)
-unfolding shortest-signed
-bytes-shortest [] h = h
-bytes-shortest (x ∷ []) h = h
-bytes-shortest (x ∷ y ∷ b) h =
-    on-bool (eqb x 255 && leb 128 y)
-    (λ e. rw (e, shortest-signed) (bytes-shortest (y ∷ b) (λ i. h (suc i))))
-    (λ e. rw (e, shortest-signed) h)
-
 -- ---- sizes
-
-at-least : (xs : List ℕ) (i : ℕ) → i < length xs → getD xs i 0 * 256 ^ (length xs - (i + 1)) ≤ number xs
-at-least xs i h = let s = split-at xs i in let f = from-at xs i h in omega arith
-
--- a byte that is not 0, with k bytes or more after it
-large : (xs : List ℕ) (i k : ℕ) → i < length xs → 1 ≤ getD xs i 0 → k ≤ length xs - (i + 1) → 256 ^ k ≤ number xs
-large xs i k h x l =
-    let a = at-least xs i h in
-    let b : 1 * 256 ^ (length xs - (i + 1)) ≤ getD xs i 0 * 256 ^ (length xs - (i + 1)) = mul-le-mul-right (256 ^ (length xs - (i + 1))) x in
-    let d : 256 ^ k ≤ 256 ^ (length xs - (i + 1)) = pow-le-pow-right (omega arith) l in
-    omega arith
 
 top-byte : (b : List ℕ) → negative b ≡ true → (1 ≤ getD b 0 0) × (0 < length b)
 unfolding negative
 top-byte [] h = not-false h
 top-byte (x ∷ b) h = let l : 128 ≤ x = leb-true 128 x h in (omega arith, omega arith)
-
-negative-large : (b : List ℕ) (k : ℕ) → negative b ≡ true → k < length b → 256 ^ k ≤ number b
-negative-large b k h l = let (x, y) = top-byte b h in large b 0 k y x (omega arith)
 
 -- four bytes turned round leave the first with 64 after it
 index-large : (s : List ℕ) → negative s ≡ true → 64 < length s → 256 ^ 64 ≤ bigint-from-bytes s
@@ -94,42 +72,6 @@ index-large s h l =
     let d = div-add-mod' (length s) 4 in
     let m : 17 ≤ length s / 4 = omega arith in
     large (turned s) 3 64 (omega arith) (rw (← j) x) (omega arith)))
-
--- ---- bytes of a number
-
-bytes-onto-bytes : (k n : ℕ) (bs : List ℕ) → Bytes bs → Bytes (bytes-onto k n bs)
-unfolding bytes-onto
-bytes-onto-bytes zero n bs h = h
-bytes-onto-bytes (suc k) n bs h =
-    on-bool (leb n 0)
-    (λ e. rw (e, bytes-onto) h)
-    (λ e. rw (e, bytes-onto) (bytes-onto-bytes k (n / 256) (n % 256 ∷ bs) more))
-  where
-    more : Bytes (n % 256 ∷ bs)
-    more zero = record { fits = omega arith }
-    more (suc i) = h i
-
-bytes-of-bytes : (n : ℕ) → Bytes (bytes-of n)
-unfolding bytes-of
-bytes-of-bytes n = bytes-onto-bytes n n [] (λ i. record { fits = omega arith })
-
--- 256 ^ k and more need over k bytes, and no number below does
-long-bytes : (n k : ℕ) → 256 ^ k ≤ n → k < length (bytes-of n)
-long-bytes n k h =
-    on-lt k (length (bytes-of n))
-    (λ l. l)
-    (λ l.
-    let b : number (bytes-of n) < 256 ^ k = number-below (bytes-of n) k (bytes-of-bytes n) l in
-    let e : number (bytes-of n) ≡ n = number-bytes-of n in
-    absurd (omega arith))
-
-bytes-long : (n k : ℕ) → k < length (bytes-of n) → 256 ^ k ≤ n
-bytes-long n k h =
-    let s : Shortest (bytes-of n) 0 = record { within = omega arith; shown = ap bytes-of (sym (number-bytes-of n)) } in
-    let x : 1 ≤ getD (bytes-of n) 0 0 = shortest-first s (omega arith) in
-    let l : 256 ^ k ≤ number (bytes-of n) = large (bytes-of n) 0 k (omega arith) x (omega arith) in
-    let e : number (bytes-of n) ≡ n = number-bytes-of n in
-    omega arith
 
 -- ---- a longer path is no smaller
 
@@ -157,7 +99,7 @@ still-long p q k h l = let n = no-smaller p q h in long-bytes (compose-paths p q
 
 module _ (b : List ℕ) (q : ℕ) (l : Lengthened) where
   -- the rule's own function
-  pub longer-is : Longer b q l → Lengthens b q l
+  longer-is : Longer b q l → Lengthens b q l
   longer-is h = record { fits = λ o. h; over = λ o. rw (← held-len (h .path)) o }
 
   too-long : path-limit < l .path .len → path-limit < length (bytes-of (compose-paths (node-path-index b) q)) → Lengthens b q l
@@ -173,22 +115,23 @@ module _ (b : List ℕ) (q : ℕ) (l : Lengthened) where
       let y : 64 < length (bytes-of (number b)) = rw e at o in
       too-long k (rw (index-positive b refl n) (still-long (number b) q path-limit h (bytes-long (number b) path-limit y)))
 
-apart : (m n k : ℕ) → m < k → k ≤ n → m ≡ n → ⊥
-apart m n k l h e = omega arith
-
-misread-yes : (b : List ℕ) → negative b ≡ true → 64 < length b → node-path-index b < 256 ^ 64 → misread b ≡ true
-unfolding misread
-misread-yes b n l i = ap not (ne-eqb (node-path-index b) (number b) (apart (node-path-index b) (number b) (256 ^ 64) i (negative-large b 64 n l)))
-
 misread-no : (b : List ℕ) → negative b ≡ false → misread b ≡ false
 unfolding misread
 misread-no b n = ap not (eq-eqb (node-path-index b) (number b) (index-positive b refl n))
 
-pub negative-longer : (b s : List ℕ) (q : ℕ) (l : Lengthened) → Longer s q l → s ≡ shortest-signed b → length s ≤ 64 → negative b ≡ true → 64 < length b → Bytes b → Lengthens b q (record { path = l .path; misread = true })
-negative-longer b s q l h e o n k y =
-    let i : node-path-index s ≡ node-path-index b = ap node-path-index e ∙ index-shortest b n in
-    let z : node-path-index s < 256 ^ 64 = index-below s 64 (rw e (bytes-shortest b y)) o in
-    longer-is b q (record { path = l .path; misread = true }) (record { path = rw (← i) (h .path); misread = sym (misread-yes b n k (rw (← i) z)) })
+module _ (b s : List ℕ) (e : s ≡ shortest-signed b) where
+  signed-bytes : Bytes b → Bytes s
+  signed-bytes y = rw e (bytes-signed b y)
+
+  pub negative-fits : (n : Number) → Holds (node-path-index s) n → length s ≤ 64 → Bytes b → number (n .bytes) < 256 ^ 64
+  negative-fits n h o y = index-moves s h (signed-bytes y) o
+
+  pub negative-longer : (q : ℕ) (n p : Number) {m : Bool} → Holds (compose-paths (number (n .bytes)) q) p → Holds (node-path-index s) n → m ≡ eqb (number (n .bytes)) (number b) → negative b ≡ true
+      → Lengthens b q (record { path = p; misread = not m })
+  unfolding misread
+  negative-longer q n p {m} h i f k =
+      let z : number (n .bytes) ≡ node-path-index b = i .value ∙ ap node-path-index e ∙ index-shortest b k in
+      longer-is b q (record { path = p; misread = not m }) (record { path = rw z at h; misread = ap not (f ∙ ap (λ v. eqb v (number b)) z) })
 
 pub positive-fits : (b s : List ℕ) (n : Number) → Holds (number s) n → length s ≤ 64 → s ≡ bytes-of (number b) → number (n .bytes) < 256 ^ 64
 positive-fits b s n h o e = number-moves s h (rw e (bytes-of-bytes (number b))) o

@@ -1,9 +1,9 @@
 pub mod NumberLaws
 pub mod TurnLaws
 pub mod ShortestLaws
+pub mod SizeLaws
 pub mod FourLaws
-pub mod SignedLaws
 pub mod CastLaws
+pub mod SignedLaws
 pub mod ComposeLaws
-pub mod WideLaws
 pub mod LengthenLaws

@@ -105,21 +105,3 @@ powers (suc j) =
 -- to go by cases of an order
 pub on-lt : {X : Type 0} (m n : ℕ) → (m < n → X) → (n ≤ m → X) → X
 on-lt m n f g = on-bool (ltb m n) (λ e. f (ltb-true m n e)) (λ e. g (ltb-false m n e))
-
--- ---- as many bytes of the same number are the same bytes
-
-from-inj : (m n : ℕ) (cs bs : List ℕ) → length cs ≡ length bs → Bytes cs → Bytes bs → number-from m cs ≡ number-from n bs → (m ≡ n) × (cs ≡ bs)
-unfolding number-from
-from-inj m n [] [] w h k e = (e, refl)
-from-inj m n [] (y ∷ ys) w h k e = absurd (omega arith)
-from-inj m n (x ∷ xs) [] w h k e = absurd (omega arith)
-from-inj m n (x ∷ xs) (y ∷ ys) w h k e =
-    let (f, g) = from-inj (m * 256 + x) (n * 256 + y) xs ys (omega arith) (λ i. h (suc i)) (λ i. k (suc i)) e in
-    let p : x < 256 = h 0 .fits in
-    let q : y < 256 = k 0 .fits in
-    let d : x ≡ y = omega arith in
-    (omega arith, ap₂ _∷_ d g)
-
-pub number-inj : (cs bs : List ℕ) → length cs ≡ length bs → Bytes cs → Bytes bs → number cs ≡ number bs → cs ≡ bs
-unfolding number
-number-inj cs bs w h k e = from-inj 0 0 cs bs w h k e .1

@@ -1,8 +1,8 @@
 -- The shortest unsigned bytes of a number are its bytes without the zeros in front. Assumes nothing.
-use Prim.Native.Nat.{ℕ, zero, suc, _+_, _-_, _*_, _/_, _%_, _≤_, _<_}
+use Prim.Native.Nat.{ℕ, zero, suc, _+_, _-_, _*_, _/_, _%_, _^_, _≤_, _<_}
 use mathlib.Core.Path.{_≡_, refl, sym, _∙_, ap, subst}
 use mathlib.Core.List.{List, [], _∷_, _++_, append-nil}
-use native.Mathlib.Nat.{le-of-eq}
+use native.Mathlib.Nat.{le-of-eq, one-le-pow}
 use native.Mathlib.Omega.{arith}
 use borrow.Author.Tests.{eqb-true, eqb-false, eq-eqb, ne-eqb}
 use lib.Dec.{leb, eqb}
@@ -10,7 +10,7 @@ use lib.ListN.{length, take, drop, getD, length-drop}
 use lib.Seq.{drop-cons, drop-length, take-all}
 use Rattle.meaning.proofs.Tests.{on-bool, leb-yes, leb-no}
 use Rattle.meaning.specs.Number.{number, number-from, bytes-onto, bytes-of}
-use Rattle.paths.specs.Wide.{Shortest, Holds}
+use Rattle.paths.specs.Wide.{Zeros, Shortest, Holds}
 use Rattle.paths.specs.declared.casts.Number.{Number}
 use Rattle.paths.proofs.NumberLaws.{Bytes, on-lt, upto-suc, split-at, bytes-drop}
 
@@ -54,10 +54,6 @@ bytes-of-number x bs h l =
 
 -- ---- zeros: the first i bytes are 0
 
-pub record Zeros (b : List ℕ) (i : ℕ) : Type 0 where
-  pub within : i ≤ length b
-  pub none : number (take i b) ≡ 0
-
 pub zeros-none : {b : List ℕ} → Zeros b 0
 unfolding number number-from
 zeros-none = record { within = omega arith; none = refl }
@@ -65,7 +61,7 @@ zeros-none = record { within = omega arith; none = refl }
 pub zeros-more : {b : List ℕ} {i : ℕ} → Zeros b i → i < length b → getD b i 0 ≡ 0 → Zeros b (i + 1)
 zeros-more {b} {i} d h z = let s = upto-suc b i h in let n = d .none in record { within = omega arith; none = omega arith }
 
-zeros-number : {b : List ℕ} {i : ℕ} → Zeros b i → number b ≡ number (drop i b)
+pub zeros-number : {b : List ℕ} {i : ℕ} → Zeros b i → number b ≡ number (drop i b)
 zeros-number {b} {i} d = split-at b i ∙ rw (d .none) (omega arith)
 
 pub zeros-found : {b : List ℕ} {i : ℕ} → Zeros b i → i < length b → (getD b i 0 ≡ 0 → ⊥) → Bytes b → Shortest b i
@@ -131,6 +127,17 @@ shortest-first {b} {z} s h = subst First (sym (s .shown) ∙ drop-cons b z 0 h) 
 
 pub shortest-number : {b : List ℕ} {z : ℕ} → Shortest b z → number b ≡ number (drop z b)
 shortest-number {b} {z} s = sym (ap number (s .shown) ∙ number-bytes-of (number b))
+
+-- a number no larger than its lower part has zeros above it
+no-higher : (t p d : ℕ) → d ≡ t * p + d → 1 ≤ p → t ≡ 0
+no-higher zero p d e h = refl
+no-higher (suc t) p d e h = absurd (omega arith)
+
+pub shortest-zeros : {b : List ℕ} {z : ℕ} → Shortest b z → Zeros b z
+shortest-zeros {b} {z} s = record {
+  within = s .within;
+  none = no-higher (number (take z b)) (256 ^ (length b - z)) (number (drop z b)) (sym (shortest-number s) ∙ split-at b z) (one-le-pow (length b - z) 256 (omega arith));
+}
 
 pub shortest-zero : {b : List ℕ} {z : ℕ} → Shortest b z → z ≡ length b → number b ≡ 0
 unfolding number number-from

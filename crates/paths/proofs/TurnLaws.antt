@@ -3,16 +3,17 @@ use Prim.Native.Nat.{ℕ, zero, suc, _+_, _-_, _*_, _/_, _%_, _^_, _≤_, _<_}
 use mathlib.Core.Path.{_≡_, refl, sym, _∙_, ap}
 use mathlib.Core.List.{List, [], _∷_}
 use mathlib.Core.Bool.{Bool, false}
-use native.Mathlib.Nat.{pow-succ', zero-div, div-one, div-div-eq-div-mul}
+use native.Mathlib.Nat.{pow-succ', zero-div, div-one, div-div-eq-div-mul, le-div-iff-mul-le, div-lt-iff-lt-mul}
 use native.Mathlib.Numerals.{add-one}
 use native.Mathlib.Omega.{arith}
 use lib.Arith.{digits-div}
 use lib.Bits.{bitAnd, and-mask}
+use lib.Count.{leadingZeros, leading-top}
 use lib.Dec.{leb, eqb}
 use lib.ListN.{length, take, drop, getD, length-drop}
-use lib.Pow.{pow-add, field, mod-mod-pow}
+use lib.Pow.{pow-add, pow-pos, field, mod-mod-pow}
 use lib.Seq.{drop-cons}
-use mir.Syntax.{w64}
+use mir.Syntax.{w8, w64}
 use mir.Val.{Fits}
 use Rattle.meaning.proofs.Tests.{on-bool, leb-no, leb-true}
 use Rattle.meaning.specs.Number.{turns-in, turns, number, number-from}
@@ -70,15 +71,19 @@ count-after n (suc k) h =
     absurd (omega arith))
     (λ l. let s : length (turns n) ≡ suc (length (turns (n / 2))) = count-step n l in rw (half-again n k) (omega arith))
 
-pub count-most : (k n : ℕ) → n < 2 ^ k → length (turns n) ≤ k
-count-most zero n h = let e : length (turns n) ≡ 0 = count-none n (omega arith) in omega arith
-count-most (suc k) n h =
+pub count-below : (k n : ℕ) → n < 2 ^ suc k → length (turns n) ≤ k
+count-below zero n h = let e : length (turns n) ≡ 0 = count-none n (omega arith) in omega arith
+count-below (suc k) n h =
     small-or n
     (λ l. let e : length (turns n) ≡ 0 = count-none n l in omega arith)
     (λ l.
     let e : length (turns n) ≡ suc (length (turns (n / 2))) = count-step n l in
-    let g : length (turns (n / 2)) ≤ k = count-most k (n / 2) (omega arith) in
+    let p : 2 ^ suc (suc k) ≡ 2 * 2 ^ suc k = pow-succ' 2 (suc k) in
+    let g : length (turns (n / 2)) ≤ k = count-below k (n / 2) (omega arith) in
     omega arith)
+
+pub count-most : (k n : ℕ) → n < 2 ^ k → length (turns n) ≤ k
+count-most k n h = let p : 2 ^ suc k ≡ 2 * 2 ^ k = pow-succ' 2 k in count-below k n (omega arith)
 
 count-byte : (m b : ℕ) → 1 ≤ m → b < 256 → length (turns (m * 256 + b)) ≡ 8 + length (turns m)
 count-byte m b h l =
@@ -165,15 +170,26 @@ pub turn-here : (b : List ℕ) (i : ℕ) {r : Bool} → r ≡ eqb (getD b (lengt
     → r ≡ getD (turns (number b)) i false
 turn-here b i e h l = e ∙ ap (λ x. eqb x 1) (sym (byte-bit b i h (turn-within b i h l))) ∙ sym (turn-bit i (number b) l)
 
-pub record Halved (x n y : ℕ) : Type 0 where
-  pub few : length (turns x) ≤ 8
-  pub done : n + length (turns y) ≡ length (turns x)
+-- ---- below_top
 
-pub halved-none : {x : ℕ} → x < 256 → Halved x 0 x
-halved-none {x} h = record { few = count-most 8 x h; done = omega arith }
+-- the place of the top bit is the count of the bits below it
+count-top : (x j : ℕ) → 2 ^ j ≤ x → x < 2 ^ suc j → length (turns x) ≡ j
+count-top x j h l =
+    let a : 1 ≤ x / 2 ^ j = le-div-iff-mul-le (pow-pos j) .1 (omega arith) in
+    let p : 2 ^ suc j ≡ 2 * 2 ^ j = pow-succ' 2 j in
+    let b : x / 2 ^ j < 2 = div-lt-iff-lt-mul (pow-pos j) .1 (omega arith) in
+    let c = count-after x j a in
+    let z = count-none (x / 2 ^ j) (omega arith) in
+    omega arith
 
-pub halved-more : {x n y : ℕ} → Halved x n y → 1 < y → Halved x (n + 1) (y / 2)
-halved-more {x} {n} {y} d h = let e = d .done in let c = count-step y h in record { few = d .few; done = omega arith }
+pub top-none : {x : ℕ} → x ≡ 0 → 0 ≡ length (turns x)
+top-none {x} e = sym (count-none x (omega arith))
 
-pub halved-all : {x n y : ℕ} → Halved x n y → y ≤ 1 → n ≡ length (turns x)
-halved-all {x} {n} {y} d h = let c = count-none y h in let e = d .done in omega arith
+pub top-some : {x : ℕ} → (x ≡ 0 → ⊥) → Fits w8 x → 7 - leadingZeros 8 x ≡ length (turns x)
+top-some {x} h f =
+    let (j, e, l, m) = leading-top 8 x (omega arith) (f .fits) in
+    let c : length (turns x) ≡ j = count-top x j l m in
+    omega arith
+
+pub top-within : {x : ℕ} → (x ≡ 0 → ⊥) → Fits w8 x → leadingZeros 8 x ≤ 7
+top-within {x} h f = let (j, e, l, m) = leading-top 8 x (omega arith) (f .fits) in omega arith

@@ -4,7 +4,7 @@ use mathlib.Core.List.{List}
 use lib.ListN.{length}
 use Rattle.meaning.specs.Limits.{path-limit}
 use Rattle.meaning.specs.Number.{node-path-index, compose-paths, bytes-of}
-use Rattle.paths.specs.declared.node_path.Lengthened.{Lengthened}
+use Rattle.paths.specs.declared.path_rule.Lengthened.{Lengthened}
 use Rattle.paths.specs.Wide.{Longer}
 
 -- l is the longer path and the misreading, or both have over 64 bytes

@@ -2,16 +2,21 @@
 use Prim.Native.Nat.{ℕ, _-_, _≤_}
 use mathlib.Core.Path.{_≡_}
 use mathlib.Core.List.{List}
-use lib.ListN.{length, drop}
+use lib.ListN.{length, take, drop}
 use Rattle.meaning.specs.Number.{number, node-path-index, compose-paths, bytes-of}
 use Rattle.meaning.specs.Rules.{misread}
 use Rattle.paths.specs.declared.casts.Number.{Number}
-use Rattle.paths.specs.declared.node_path.Lengthened.{Lengthened}
+use Rattle.paths.specs.declared.path_rule.Lengthened.{Lengthened}
 
 -- 65 bytes whose big-endian number is v
 pub record Wide (v : ℕ) (bs : List ℕ) : Type 0 where
   pub wide : length bs ≡ 65
   pub value : number bs ≡ v
+
+-- the first i bytes are 0
+pub record Zeros (bs : List ℕ) (i : ℕ) : Type 0 where
+  pub within : i ≤ length bs
+  pub none : number (take i bs) ≡ 0
 
 -- the shortest unsigned bytes start at index z
 pub record Shortest (bs : List ℕ) (z : ℕ) : Type 0 where

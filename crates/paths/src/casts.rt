@@ -5,7 +5,7 @@ ghost use lib.Dec.{eqb};
 ghost use lib.ListN.{length, getD};
 ghost use Rattle.meaning.specs.Number.{number, negative, bigint-from-bytes, shortest-signed, bytes-of};
 ghost use Rattle.paths.specs.Fours.{turned};
-ghost use Rattle.paths.specs.Wide.{Wide, Shortest, Holds};
+ghost use Rattle.paths.specs.Wide.{Wide, Zeros, Shortest, Holds};
 
 // A number below 256 ^ 65: its bytes are big-endian and right-aligned with zeros before them, and the last `len` are its shortest.
 // The byte over the 64 of an atom is for the path that the path rule makes of one.
@@ -53,14 +53,34 @@ pub fn bigint_to_bytes_unsigned(b: &[u8]) -> &[u8]
     &b[z..]
 }
 
-// 65 bytes, with the count of their number's shortest ones.
-pub(crate) fn measured(bytes: [u8; 65]) -> Number
+// Both have the same unsigned number: their shortest bytes are the same.
+pub(crate) fn same_number<'a>(a: &'a [u8], b: &'a [u8]) -> bool
+    ensures { λ r. ⌜ r ≡ eqb (number (now (a .entry))) (number (now (b .entry))) ⌝ }
+{
+    let x = bigint_to_bytes_unsigned(a);
+    let y = bigint_to_bytes_unsigned(b);
+    if x.len() != y.len() {
+        return false;
+    }
+    let mut i: usize = 0;
+    while i < x.len() {
+        if x[i] != y[i] {
+            return false;
+        }
+        i += 1;
+    }
+    true
+}
+
+// 65 bytes, with the count of their number's shortest ones. These start at index `from` or later.
+pub(crate) fn measured(bytes: [u8; 65], from: usize) -> Number
+    requires { ⌜ Zeros bytes from ⌝ }
     ensures { λ r. ⌜ Holds (number bytes) r ⌝ }
 {
-    let z = zeros(&bytes);
+    let z = zeros(&bytes[from..]);
     Number {
         bytes: bytes,
-        len: 65 - z,
+        len: 65 - from - z,
     }
 }
 
@@ -84,7 +104,7 @@ pub fn unsigned(b: &[u8]) -> Number
     requires { ⌜ length (now b) ≤ 65 ⌝ }
     ensures { λ r. ⌜ Holds (number (now (b .entry))) r ⌝ }
 {
-    measured(placed(b))
+    measured(placed(b), 65 - b.len())
 }
 
 // `bigint_to_bytes_clvm` of a number below 0: a leading ff goes where the next byte has the sign too.

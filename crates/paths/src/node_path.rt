@@ -1,28 +1,16 @@
 // node_path.rs: paths as numbers.
-ghost use Prim.Native.Nat.{_^_, _≤_, _<_};
+ghost use mathlib.Core.Path.{_≡_};
+ghost use Prim.Native.Nat.{_+_, _*_, _%_, _^_, _≤_, _<_};
 ghost use lib.ListN.{length};
 ghost use Rattle.meaning.specs.Number.{number, node-path-index, compose-paths};
-ghost use Rattle.paths.specs.Wide.{Holds, Longer};
+ghost use Rattle.paths.specs.Wide.{Holds};
 use crate::casts::Number;
 use crate::casts::bigint_from_bytes;
 use crate::casts::measured;
 use crate::casts::negative;
-use crate::casts::placed;
 use crate::casts::shortest_signed;
 use crate::casts::unsigned;
-use crate::wide::above_one;
-use crate::wide::doubled;
-use crate::wide::halved;
-use crate::wide::joined;
-use crate::wide::less_one;
-use crate::wide::one_byte;
-use crate::wide::same;
-
-// What the path rule makes of an atom: the longer path, and whether the atom's index differs from its unsigned number.
-pub struct Lengthened {
-    pub path: Number,
-    pub misread: bool,
-}
+use crate::turns::below_top;
 
 // `NodePath::new` of the signed number of the bytes.
 pub fn node_path_index(b: &[u8]) -> Number
@@ -30,42 +18,37 @@ pub fn node_path_index(b: &[u8]) -> Number
     ensures { λ r. ⌜ Holds (node-path-index (now (b .entry))) r ⌝ }
 {
     if negative(b) {
-        return measured(bigint_from_bytes(shortest_signed(b)));
+        let s = shortest_signed(b);
+        return measured(bigint_from_bytes(s), 65 - s.len());
     }
     unsigned(b)
 }
 
-// path_1 is shifted left by the number of bits below the top bit of path_0, and path_0's lower bits go in: one bit at a time,
-// as the Rust does, until nothing but the top bit is left of path_0.
+// q is shifted left by n bits, and the lower n bits of x go in.
+pub(crate) fn joined(q: u8, x: u8, n: usize) -> u16
+    requires { ⌜ n < 8 ⌝ }
+    ensures { λ r. ⌜ r ≡ q * 2 ^ n + x % 2 ^ n ⌝ }
+{
+    let mask = (1u16 << n) - 1;
+    ((q as u16) << n) | ((x as u16) & mask)
+}
+
+// path_1 is shifted left by the number of bits below the top bit of path_0, and path_0's lower bits go in. The length says which byte has
+// the top bit. All bytes after it stay; path_1 goes into it, above its lower bits, and what goes over into the byte before it.
 pub fn compose_paths(path_0: Number, path_1: u8) -> Number
+    requires { ⌜ Holds (number (path_0 .bytes)) path_0 ⌝ }
     requires { ⌜ number (path_0 .bytes) < 256 ^ 64 ⌝ }
     ensures { λ r. ⌜ Holds (compose-paths (number (path_0 .bytes)) path_1) r ⌝ }
 {
-    let low = path_0.bytes;
-    let mut high = one_byte(path_1);
-    let mut mask = one_byte(1);
-    let mut temp_path = low;
-    while above_one(&temp_path) {
-        high = doubled(&high);
-        mask = doubled(&mask);
-        temp_path = halved(&temp_path);
+    let mut bytes = path_0.bytes;
+    let len = path_0.len;
+    if len == 0 {
+        return unsigned(&[path_1]);
     }
-    mask = less_one(&mask);
-    measured(joined(&high, &low, &mask))
-}
-
-// `NodePath::new(..).add(..)` of an atom of at most 64 bytes.
-pub(crate) fn longer(b: &[u8], q: u8) -> Lengthened
-    requires { ⌜ length (now b) ≤ 64 ⌝ }
-    ensures { λ r. ⌜ Longer (now (b .entry)) q r ⌝ }
-{
-    let index = node_path_index(b);
-    let read = index.bytes;
-    let plain = placed(b);
-    let misread = !same(&read, &plain);
-    let path = compose_paths(index, q);
-    Lengthened {
-        path: path,
-        misread: misread,
-    }
+    let at = 65 - len;
+    let top = bytes[at];
+    let both = joined(path_1, top, below_top(top));
+    bytes[at] = (both & 255) as u8;
+    bytes[at - 1] = (both >> 8) as u8;
+    measured(bytes, at - 1)
 }

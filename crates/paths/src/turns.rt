@@ -14,13 +14,10 @@ use crate::casts::zeros;
 pub(crate) fn below_top(x: u8) -> usize
     ensures { λ r. ⌜ r ≡ length (turns x) ⌝ }
 {
-    let mut n: usize = 0;
-    let mut y = x;
-    while 1 < y {
-        y = y >> 1;
-        n += 1;
+    if x == 0 {
+        return 0;
     }
-    n
+    (7 - u8::leading_zeros(x)) as usize
 }
 
 // How many turns the unsigned number has: the bits below its top bit.

@@ -1,156 +1,158 @@
-// Rows of paths, in hexadecimal: what `compose_paths`, `NodePath::new` and the path rule make of an atom, and its turns.
+// Rows of paths: a line of hex in, a line out. The first byte says what is asked of the bytes from the third on; the second byte is q.
+//   01  `compose_paths` of their unsigned number and q
+//   02  `NodePath::new`'s index of their signed number
+//   03  the path rule's longer path: `misread` where the index is not the unsigned number, `too long` where it has over 64 bytes
+//   04  the turns, `l` and `r`: `low` for a signed number of 0 or less, `fewer` where substitution takes fewer of them
+// Bytes are printed in hex, and `-` where there are none. A line that is no such row, or has over 64 bytes, prints `no row`.
+use lines::Got;
+use lines::Lines;
+use lines::Spelling;
+use paths::Number;
 ghost use Prim.Native.Nat.{_≤_};
 ghost use lib.ListN.{length};
-use libc::STDOUT_FILENO;
-use paths::Number;
+ghost use Rattle.lines.specs.Text.{line-most};
 
-fn say(text: &[u8]) {
-    io::write_all(STDOUT_FILENO, text);
-}
-
-fn say_byte(x: u8) {
-    io::print_hex(STDOUT_FILENO, x as u64, 2);
-}
-
-// The bytes, and `-` where there are none.
-fn show(b: &[u8]) {
-    if b.len() == 0 {
-        say(b"-");
+// The bytes from an index on.
+fn print_from(bytes: &[u8], from: usize, text: &mut [u8], at: usize) -> usize {
+    if bytes.len() <= from {
+        return lines::print_word(text, at, b"-");
     }
-    let mut i: usize = 0;
-    while i < b.len() {
-        say_byte(b[i]);
-        i += 1;
-    }
+    lines::print_hex(text, at, &bytes[from..])
 }
 
-fn show_number(n: Number) {
+// A number's shortest bytes, as many as it says.
+fn print_number(n: Number, text: &mut [u8], at: usize) -> usize
+    requires { ⌜ n .len ≤ 65 ⌝ }
+{
     let bytes = n.bytes;
-    show(paths::bigint_to_bytes_unsigned(&bytes));
-    say(b"\n");
+    print_from(&bytes, 65 - n.len, text, at)
 }
 
-fn compose(p: &[u8], q: u8)
+fn print_composed(p: &[u8], q: u8, text: &mut [u8], at: usize) -> usize
     requires { ⌜ length (now p) ≤ 64 ⌝ }
 {
-    say(b"compose ");
-    show(p);
-    say(b" ");
-    say_byte(q);
-    say(b" = ");
-    show_number(paths::compose_paths(paths::unsigned(p), q));
+    print_number(paths::compose_paths(paths::unsigned(p), q), text, at)
 }
 
-fn index(b: &[u8])
+fn print_index(b: &[u8], text: &mut [u8], at: usize) -> usize
     requires { ⌜ length (now b) ≤ 64 ⌝ }
 {
-    say(b"index ");
-    show(b);
-    say(b" = ");
-    show_number(paths::node_path_index(b));
+    print_number(paths::node_path_index(b), text, at)
 }
 
-fn longer(b: &[u8], q: u8)
+// A word, or nothing.
+fn print_if(yes: bool, word: &[u8], text: &mut [u8], at: usize) -> usize {
+    if yes {
+        return lines::print_word(text, at, word);
+    }
+    at
+}
+
+fn print_longer(b: &[u8], q: u8, text: &mut [u8], at: usize) -> usize
     requires { ⌜ 1 ≤ q ⌝ }
 {
-    say(b"longer ");
-    show(b);
-    say(b" ");
-    say_byte(q);
     let l = paths::lengthen(b, q);
-    if l.misread {
-        say(b" misread");
-    }
     if 64 < l.path.len {
-        say(b" too long");
+        return lines::print_word(text, at, b"too long");
     }
-    say(b" = ");
-    show_number(l.path);
+    let k = print_number(l.path, text, at);
+    print_if(l.misread, b" misread", text, k)
+}
+
+fn print_letter(right: bool, text: &mut [u8], at: usize) -> usize {
+    if right {
+        return lines::print_word(text, at, b"r");
+    }
+    lines::print_word(text, at, b"l")
 }
 
 // A letter for each turn, the first turn first.
-fn letters(b: &[u8])
+fn print_letters(b: &[u8], text: &mut [u8], at: usize) -> usize
     requires { ⌜ length (now b) ≤ 64 ⌝ }
 {
     let n = paths::turn_count(b);
+    let mut k = at;
     let mut i: usize = 0;
     while i < n {
-        if paths::turn(b, i) {
-            say(b"r");
-        } else {
-            say(b"l");
-        }
+        k = print_letter(paths::turn(b, i), text, k);
         i += 1;
     }
+    k
 }
 
-// The turns; whether the atom is low; whether substitution takes fewer of them.
-fn turns(b: &[u8])
+fn print_turns(b: &[u8], text: &mut [u8], at: usize) -> usize
     requires { ⌜ length (now b) ≤ 64 ⌝ }
 {
-    say(b"turns ");
-    show(b);
-    say(b" = .");
-    letters(b);
-    if paths::is_low(b) {
-        say(b" low");
+    let fewer = paths::sub_turn_count(b) < paths::turn_count(b);
+    let mut k = lines::print_word(text, at, b".");
+    k = print_letters(b, text, k);
+    k = print_if(paths::is_low(b), b" low", text, k);
+    print_if(fewer, b" fewer", text, k)
+}
+
+fn print_row(row: &[u8], text: &mut [u8], at: usize) -> usize {
+    if row.len() < 2 {
+        return lines::print_word(text, at, b"no row");
     }
-    if paths::sub_turn_count(b) < paths::turn_count(b) {
-        say(b" fewer");
+    if 66 < row.len() {
+        return lines::print_word(text, at, b"no row");
     }
-    say(b"\n");
+    let q = row[1];
+    match row[0] {
+        1 => print_composed(&row[2..], q, text, at),
+        2 => print_index(&row[2..], text, at),
+        3 => {
+            if q == 0 {
+                return lines::print_word(text, at, b"no row");
+            }
+            print_longer(&row[2..], q, text, at)
+        }
+        4 => print_turns(&row[2..], text, at),
+        _ => lines::print_word(text, at, b"no row"),
+    }
 }
 
-fn small_rows() {
-    compose(b"\x09", 10);
-    compose(b"\x0a", 9);
-    compose(b"", 2);
-    compose(b"\x00", 2);
-    compose(b"\x01", 3);
-    index(b"");
-    index(b"\x80");
-    index(b"\x00\x80");
-    index(b"\xff\x80");
-    index(b"\xff\xff\x7f");
-    index(b"\x80\x00\x00\x80");
-    index(b"\x80\x00\x00\x01");
-    index(b"\x81\x02\x03\x04\x05\x06");
+// Answers the next line.
+fn turn(buf: &mut [u8], row: &mut [u8], text: &mut [u8], s: Lines) -> Lines
+    requires { ⌜ line-most ≤ length (now text) ⌝ }
+{
+    let mut r = lines::next_line(Spelling::Hex, buf, row, text, s);
+    let n = r.n;
+    let at = lines::room_for_line(text, r.put);
+    let g = r.got;
+    match g {
+        Got::Form => {
+            let k = print_row(&row[..n], text, at);
+            r.put = lines::print_word(text, k, b"\n");
+            r
+        }
+        Got::Bad => {
+            r.put = lines::print_no_line(text, at);
+            r
+        }
+        Got::End => {
+            r.put = at;
+            r
+        }
+    }
 }
 
-fn rule_rows() {
-    longer(b"\x40", 2);
-    longer(b"\xff\x80", 2);
-    longer(b"\x80\x00\x00\x80", 2);
-    longer(b"\x80\x00\x00\x01", 2);
-    longer(b"", 2);
-    longer(b"\x00", 3);
+// Nothing says that the input ends: the turns are counted down, from a number that no run uses up.
+fn turns(buf: &mut [u8], row: &mut [u8], text: &mut [u8])
+    requires { ⌜ line-most ≤ length (now text) ⌝ }
+{
+    let mut s = lines::start();
+    let mut left = u64::MAX;
+    while 0 < left {
+        s = turn(buf, row, text, s);
+        left = lines::left(s, left);
+    }
 }
 
-fn turn_rows() {
-    turns(b"");
-    turns(b"\x00");
-    turns(b"\x01");
-    turns(b"\x00\x02");
-    turns(b"\x0b");
-    turns(b"\x81");
-    turns(b"\x00\x81\x05");
-}
-
-// 64 bytes: the widest answer, one that refusal 11 meets, and the widest index.
-fn edge_rows() {
-    let mut edge = [0u8; 64];
-    edge[0] = 127;
-    longer(&edge, 2);
-    edge[0] = 255;
-    edge[3] = 128;
-    longer(&edge, 3);
-    edge[63] = 1;
-    index(&edge);
-}
-
+// Of a row one byte more than it may have is kept.
 fn main() {
-    small_rows();
-    rule_rows();
-    turn_rows();
-    edge_rows();
+    let mut buf = [0u8; 4096];
+    let mut row = [0u8; 67];
+    let mut text = [0u8; 69632];
+    turns(&mut buf, &mut row, &mut text);
 }

@@ -27,7 +27,7 @@ use Rattle.store.specs.Nodes.{treeAt}
 use Rattle.store.specs.Store.{Held, Ready}
 use Rattle.store.specs.Makers.{Grown, MadeOk}
 use Rattle.store.proofs.Ready.{room, grown-none, grown-ready, grown-tree, look-pair, look-atom}
-use Rattle.paths.specs.declared.node_path.Lengthened.{Lengthened}
+use Rattle.paths.specs.declared.path_rule.Lengthened.{Lengthened}
 use Rattle.paths.specs.Lengthens.{Lengthens}
 use Rattle.paths.proofs.ShortestLaws.{held-len}
 use Rattle.pattern.specs.declared.Bindings.{Bindings}

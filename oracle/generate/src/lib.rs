@@ -13,6 +13,7 @@ mod limits;
 pub mod options;
 mod pairs_eval;
 mod pairs_match;
+mod paths;
 pub mod random;
 mod repeats;
 mod rules;
@@ -58,6 +59,9 @@ pub fn print(options: &Options, sink: &mut Sink) -> bool {
         "rule-8" => rules::print(8, options, sink),
         "pairs-match" => pairs_match::print(options, sink),
         "pairs-eval" => pairs_eval::print(options, sink),
+        "path-bytes" => paths::bytes(options, sink),
+        "path-atoms" => paths::atoms(options, sink),
+        "path-rows" => paths::rows(options, sink),
         "trees" => trees::print(options, sink),
         "texts-border" => texts_border::print(sink),
         "texts-bytes" => texts_bytes::print(options, sink),

@@ -3,6 +3,7 @@
 pub mod form;
 pub mod matcher;
 pub mod modes;
+pub mod paths;
 pub mod readable;
 pub mod runner;
 

@@ -8,7 +8,7 @@ use oracle::modes::{answer, Mode};
 use oracle::{store, STACK};
 
 const USAGE: &str = "Give one mode: tree, full, full --trace, full --rules, full --causes, match, eval, rule 1 to rule 8, read, \
-read-text, write-text, optimise-text, evaluate-text, or text-fault.";
+read-text, write-text, optimise-text, evaluate-text, text-fault, or paths.";
 
 fn mode(words: &[String]) -> Option<Mode> {
     let words: Vec<&str> = words.iter().map(|w| w.as_str()).collect();
@@ -26,6 +26,7 @@ fn mode(words: &[String]) -> Option<Mode> {
         ["optimise-text"] => Mode::OptimiseText,
         ["evaluate-text"] => Mode::EvaluateText,
         ["text-fault"] => Mode::TextFault,
+        ["paths"] => Mode::Paths,
         ["rule", number @ ("1" | "2" | "3" | "4" | "5" | "6" | "7" | "8")] => {
             Mode::Rule(number.parse().unwrap())
         }

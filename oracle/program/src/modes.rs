@@ -10,6 +10,7 @@ use clvm_rs::run::{write, GaveUp};
 
 use crate::form::{from_hex, put_hex, read};
 use crate::matcher::{matches, published_agrees, Matched};
+use crate::paths;
 use crate::readable::{read_text, text_fault, write_text};
 use crate::runner::{evaluate, Runner};
 
@@ -34,6 +35,7 @@ pub enum Mode {
     OptimiseText,
     EvaluateText,
     TextFault,
+    Paths,
 }
 
 pub struct Said {
@@ -130,6 +132,10 @@ fn work(
     if mode == Mode::TextFault {
         return put_fault(store, &forms[0], out);
     }
+    if mode == Mode::Paths {
+        out.push_str(&paths::answer(&forms[0]));
+        return Ok(());
+    }
     let first = match mode {
         Mode::ReadText | Mode::OptimiseText | Mode::EvaluateText => read_text(store, &forms[0])?,
         _ => read(store, &forms[0])?,
@@ -222,7 +228,7 @@ fn work(
             put_text(store, value, out)?;
             write!(out, " {steps} {}", store.run.units).unwrap();
         }
-        Mode::TextFault => unreachable!("it is answered above"),
+        Mode::TextFault | Mode::Paths => unreachable!("they are answered above"),
     }
     Ok(())
 }

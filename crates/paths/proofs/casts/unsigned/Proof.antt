@@ -9,5 +9,6 @@ unsigned-spec =
     tie.close
     (tie.spec
     (λ c κs. search needs)  -- placed-requires
-    (λ c κs. search needs)  -- measured-requires
+    (λ c. search needs)  -- sub-measured
+    (λ c κs. search laws.placed-zeros)  -- measured-requires
     (λ c. search laws.measured-as))  -- returns

@@ -1,13 +1,14 @@
 -- `paths::casts::zeros` meets its contract. The invariant: the first i bytes are 0. Assumes nothing.
 use Prim.Native.Nat.{_-_}
 use lib.ListN.{length}
+use Rattle.paths.specs.Wide.{Zeros}
 use Rattle.paths.proofs.ShortestLaws as laws
 use borrow.Author.Needs.{needs}
 use Rattle.paths.proofs.casts.zeros.Statement.{statement}
 use Rattle.paths.proofs.casts.zeros.Tie as tie
 
 abbrev Inv-loop : tie.InvT-loop
-Inv-loop b i₀ i = laws.Zeros b i
+Inv-loop b i₀ i = Zeros b i
 
 abbrev μ-loop : tie.MeasureT-loop
 μ-loop b i₀ i = length b - i

@@ -11,7 +11,8 @@ node-path-index-spec =
     (λ c κs. search needs)  -- negative-requires
     (λ c κs. search needs)  -- shortest-signed-requires
     (λ c κs. search laws.signed-fits)  -- bigint-from-bytes-requires
-    (λ c κs. search needs)  -- measured-requires
+    (λ c. search laws.signed-fits)  -- sub-measured
+    (λ c κs. search laws.signed-zeros)  -- measured-requires
     (λ c. search laws.held-negative)  -- returns
     (λ c κs. search needs)  -- unsigned-requires
     (λ c. search laws.held-positive))  -- returns-2

@@ -8,10 +8,8 @@ pub lengthen-spec : {M : Type 1} → statement M
 lengthen-spec =
     tie.close
     (tie.spec
-    (λ c κs. search needs)  -- longer-requires
-    (λ c. search laws.longer-is)  -- returns
     (λ c κs. search needs)  -- negative-requires
-    (λ c κs. (search needs, search laws.sign, search needs))  -- longer-negative-requires
-    (λ c. search needs)  -- returns-2
+    (λ c κs. (search laws.sign, search needs))  -- longer-negative-requires
+    (λ c. search needs)  -- returns
     (λ c κs. (search laws.sign, search needs))  -- longer-positive-requires
-    (λ c. search needs))  -- returns-3
+    (λ c. search needs))  -- returns-2

@@ -1,5 +1,6 @@
 -- longer_positive: an answer for each need; what carries weight stands in the laws.
 use Rattle.paths.proofs.LengthenLaws as laws
+use Rattle.paths.proofs.SignedLaws.{held}
 use borrow.Author.Needs.{needs}
 use Rattle.paths.proofs.path_rule.longer_positive.Statement.{statement}
 use Rattle.paths.proofs.path_rule.longer_positive.Tie as tie
@@ -12,5 +13,5 @@ longer-positive-spec =
     (λ c κs. search needs)  -- over-long-requires
     (λ c. search laws.positive-long)  -- returns
     (λ c κs. search needs)  -- unsigned-requires
-    (λ c κs. search laws.positive-fits)  -- compose-paths-requires
+    (λ c κs. (search held, search laws.positive-fits))  -- compose-paths-requires
     (λ c. search laws.positive-longer))  -- returns-2
