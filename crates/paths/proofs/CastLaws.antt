@@ -16,7 +16,7 @@ use Rattle.paths.specs.Wide.{Wide, Zeros, Shortest, Holds}
 use Rattle.paths.specs.declared.casts.Number.{Number}
 use Rattle.paths.proofs.FourLaws.{bigint-turned, length-turned}
 use Rattle.paths.proofs.NumberLaws.{Bytes, number-lt, upto-suc, upto-set, upto-all, upto-zeros, split-at}
-use Rattle.paths.proofs.ShortestLaws.{number-bytes-of, zeros-number}
+use Rattle.paths.proofs.ShortestLaws.{number-bytes-of, zeros-number, no-higher}
 
 -- ---- negative
 
@@ -91,17 +91,13 @@ measured {bs} {i} {z} d s w =
 pub measured-as : {v : ℕ} {bs : List ℕ} {n : Number} → Wide v bs → Holds (number bs) n → Holds v n
 measured-as w h = rw (w .value) at h
 
-none-higher : (t p d v : ℕ) → v ≡ t * p + d → v < p → t ≡ 0
-none-higher zero p d v e h = refl
-none-higher (suc t) p d v e h = absurd (omega arith)
-
 -- a number of n bytes has zeros before these
 pub wide-zeros : {v n : ℕ} {r : List ℕ} → Wide v r → v < 256 ^ n → n ≤ 65 → Zeros r (65 - n)
 wide-zeros {v} {n} {r} w h l =
     let k = w .wide in
     let e : length r - (65 - n) ≡ n = omega arith in
     let s : number r ≡ number (take (65 - n) r) * 256 ^ n + number (drop (65 - n) r) = split-at r (65 - n) ∙ rw e in
-    record { within = omega arith; none = none-higher (number (take (65 - n) r)) (256 ^ n) (number (drop (65 - n) r)) v (sym (w .value) ∙ s) h }
+    record { within = omega arith; none = no-higher (number (take (65 - n) r)) (256 ^ n) (number (drop (65 - n) r)) v (sym (w .value) ∙ s) (omega arith) }
 
 pub placed-zeros : (b : List ℕ) {r : List ℕ} → Wide (number b) r → Bytes b → length b ≤ 65 → Zeros r (65 - length b)
 placed-zeros b w h l = wide-zeros w (number-lt b h) l

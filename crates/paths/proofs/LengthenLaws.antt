@@ -22,7 +22,7 @@ use Rattle.paths.proofs.SizeLaws.{large, bytes-of-bytes, long-bytes, by
 use Rattle.paths.proofs.TurnLaws.{count-step, count-after, small-or}
 use Rattle.paths.proofs.ShortestLaws.{number-bytes-of, held-len}
 use Rattle.paths.proofs.FourLaws.{bigint-turned, length-turned, turned-before, turned-group}
-use Rattle.paths.proofs.SignedLaws.{index-negative, index-positive, bytes-signed, number-moves, index-moves}
+use Rattle.paths.proofs.SignedLaws.{index-negative, index-positive, bytes-signed, number-short, index-short}
 use Rattle.paths.proofs.ComposeLaws.{compose-shifted}
 
 -- ---- shortest signed bytes
@@ -124,7 +124,7 @@ module _ (b s : List ℕ) (e : s ≡ shortest-signed b) where
   signed-bytes y = rw e (bytes-signed b y)
 
   pub negative-fits : (n : Number) → Holds (node-path-index s) n → length s ≤ 64 → Bytes b → number (n .bytes) < 256 ^ 64
-  negative-fits n h o y = index-moves s h (signed-bytes y) o
+  negative-fits n h o y = index-short s h (signed-bytes y) o
 
   pub negative-longer : (q : ℕ) (n p : Number) {m : Bool} → Holds (compose-paths (number (n .bytes)) q) p → Holds (node-path-index s) n → m ≡ eqb (number (n .bytes)) (number b) → negative b ≡ true
       → Lengthens b q (record { path = p; misread = not m })
@@ -134,7 +134,7 @@ module _ (b s : List ℕ) (e : s ≡ shortest-signed b) where
       longer-is b q (record { path = p; misread = not m }) (record { path = rw z at h; misread = ap not (f ∙ ap (λ v. eqb v (number b)) z) })
 
 pub positive-fits : (b s : List ℕ) (n : Number) → Holds (number s) n → length s ≤ 64 → s ≡ bytes-of (number b) → number (n .bytes) < 256 ^ 64
-positive-fits b s n h o e = number-moves s h (rw e (bytes-of-bytes (number b))) o
+positive-fits b s n h o e = number-short s h (rw e (bytes-of-bytes (number b))) o
 
 pub positive-longer : (b s : List ℕ) (q : ℕ) (n p : Number) → Holds (compose-paths (number (n .bytes)) q) p → Holds (number s) n → s ≡ bytes-of (number b) → negative b ≡ false → Lengthens b q (record { path = p; misread = false })
 positive-longer b s q n p h i e k =

@@ -128,15 +128,17 @@ shortest-first {b} {z} s h = subst First (sym (s .shown) ∙ drop-cons b z 0 h) 
 pub shortest-number : {b : List ℕ} {z : ℕ} → Shortest b z → number b ≡ number (drop z b)
 shortest-number {b} {z} s = sym (ap number (s .shown) ∙ number-bytes-of (number b))
 
--- a number no larger than its lower part has zeros above it
-no-higher : (t p d : ℕ) → d ≡ t * p + d → 1 ≤ p → t ≡ 0
-no-higher zero p d e h = refl
-no-higher (suc t) p d e h = absurd (omega arith)
+-- nothing stands above the lower part d where the whole is no larger by a p
+pub no-higher : (t p d v : ℕ) → v ≡ t * p + d → v < p + d → t ≡ 0
+no-higher zero p d v e h = refl
+no-higher (suc t) p d v e h = absurd (omega arith)
 
 pub shortest-zeros : {b : List ℕ} {z : ℕ} → Shortest b z → Zeros b z
 shortest-zeros {b} {z} s = record {
   within = s .within;
-  none = no-higher (number (take z b)) (256 ^ (length b - z)) (number (drop z b)) (sym (shortest-number s) ∙ split-at b z) (one-le-pow (length b - z) 256 (omega arith));
+  none =
+      let p : 1 ≤ 256 ^ (length b - z) = one-le-pow (length b - z) 256 (omega arith) in
+      no-higher (number (take z b)) (256 ^ (length b - z)) (number (drop z b)) (number (drop z b)) (sym (shortest-number s) ∙ split-at b z) (omega arith);
 }
 
 pub shortest-zero : {b : List ℕ} {z : ℕ} → Shortest b z → z ≡ length b → number b ≡ 0

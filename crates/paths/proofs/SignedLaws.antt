@@ -105,8 +105,8 @@ held-positive b e h n = rw (index-positive b e h) n
 pub held : {v : ℕ} {n : Number} → Holds v n → Holds (number (n .bytes)) n
 held h = rw (h .value) h
 
-pub number-moves : (b : List ℕ) {n : Number} → Holds (number b) n → Bytes b → length b ≤ 64 → number (n .bytes) < 256 ^ 64
-number-moves b n h l = rw (n .value) (number-below b 64 h l)
+pub number-short : (b : List ℕ) {n : Number} → Holds (number b) n → Bytes b → length b ≤ 64 → number (n .bytes) < 256 ^ 64
+number-short b n h l = rw (n .value) (number-below b 64 h l)
 
-pub index-moves : (b : List ℕ) {n : Number} → Holds (node-path-index b) n → Bytes b → length b ≤ 64 → number (n .bytes) < 256 ^ 64
-index-moves b n h l = rw (n .value) (index-below b 64 h l)
+pub index-short : (b : List ℕ) {n : Number} → Holds (node-path-index b) n → Bytes b → length b ≤ 64 → number (n .bytes) < 256 ^ 64
+index-short b n h l = rw (n .value) (index-below b 64 h l)

@@ -25,7 +25,7 @@ pub fn node_path_index(b: &[u8]) -> Number
 }
 
 // q is shifted left by n bits, and the lower n bits of x go in.
-pub(crate) fn joined(q: u8, x: u8, n: usize) -> u16
+fn joined(q: u8, x: u8, n: usize) -> u16
     requires { ⌜ n < 8 ⌝ }
     ensures { λ r. ⌜ r ≡ q * 2 ^ n + x % 2 ^ n ⌝ }
 {

@@ -10,7 +10,7 @@ use crate::casts::is_zero;
 use crate::casts::negative;
 use crate::casts::zeros;
 
-// How many bits stand below the top bit of a byte.
+// How many bits stand below the top bit of a byte: none for 0.
 pub(crate) fn below_top(x: u8) -> usize
     ensures { λ r. ⌜ r ≡ length (turns x) ⌝ }
 {
