@@ -11,8 +11,9 @@
 
 /* A word of the stack that nothing has touched. */
 #define CLEAN 0xa5a5a5a5a5a5a5a5u
-enum { STACK = 8 << 20, WORDS = STACK / 8, FORMS = 6, FUNCTIONS = 10 };
-static uint8_t form[UMLAZGRIN_FORM], text[UMLAZGRIN_TEXT + 2], room[UMLAZGRIN_ROOM], out[UMLAZGRIN_OUTPUT];
+enum { STACK = 8 << 20, WORDS = STACK / 8, FORMS = 7, FUNCTIONS = 11 };
+static uint8_t form[UMLAZGRIN_FORM], both[2 * UMLAZGRIN_FORM], text[UMLAZGRIN_TEXT + 2];
+static uint8_t room[UMLAZGRIN_ROOM], out[UMLAZGRIN_OUTPUT];
 static uint64_t *stack;
 static size_t length, text_length;
 
@@ -29,13 +30,32 @@ static void *evaluate(void *none) {
     umlazgrin_evaluate(form, length + 1, length, room, sizeof room, out, sizeof out, &r);
     return none;
 }
-/* The form as a pattern, against itself. */
-static void *match(void *none) {
-    static uint8_t both[2 * sizeof form];
-    struct umlazgrin_matched r;
+/* The form twice: the pattern, and the expression. */
+static void double_form(void) {
     memcpy(both, form, length);
     memcpy(both + length, form, length);
+}
+static void *match(void *none) {
+    struct umlazgrin_matched r;
+    double_form();
     umlazgrin_match(both, 2 * length, length, room, sizeof room, out, sizeof out, &r);
+    return none;
+}
+/* The form as a pattern, against itself with one byte changed, where nil and 1 change places. */
+static void match_changed(size_t at) {
+    struct umlazgrin_matched r;
+    struct umlazgrin_place p;
+    double_form();
+    both[length + at] ^= 0x81;
+    umlazgrin_match_place(both, 2 * length, length, room, sizeof room, out, sizeof out, &r, &p);
+}
+/* Fails at the form's first atom, then at its last. */
+static void *match_place(void *none) {
+    size_t first = 0;
+    if (!length) return none;
+    while (first + 1 < length && form[first] == 0xff) first++;
+    match_changed(first);
+    match_changed(length - 1);
     return none;
 }
 static void *check(void *none) {
@@ -112,9 +132,9 @@ static int take(const char *line) {
 }
 
 int main(void) {
-    const char *names[FUNCTIONS] = {"optimise",   "evaluate",  "match",         "check",         "write",
+    const char *names[FUNCTIONS] = {"optimise",   "evaluate",  "match",         "match_place",   "check",     "write",
                                     "write_text", "read_text", "optimise_text", "evaluate_text", "text_fault"};
-    void *(*works[FUNCTIONS])(void *) = {optimise,   evaluate,  match,         check,         write_again,
+    void *(*works[FUNCTIONS])(void *) = {optimise,   evaluate,  match,         match_place,   check,     write_again,
                                          write_text, read_text, optimise_text, evaluate_text, text_fault};
     size_t most[FUNCTIONS] = {0}, at[FUNCTIONS] = {0}, number = 0;
     static char line[UMLAZGRIN_TEXT + 64];

@@ -32,6 +32,7 @@ static void nulls(void) {
     struct umlazgrin_optimised o = {7, 7, 7, 7};
     struct umlazgrin_evaluated e = {7, 7, 7};
     struct umlazgrin_matched m = {7, 7, 7, 7, 7};
+    struct umlazgrin_place p = {{7}};
     struct umlazgrin_checked c = {7};
     struct umlazgrin_written w = {7, 7};
     fill();
@@ -40,9 +41,11 @@ static void nulls(void) {
     expect(umlazgrin_optimise(first_of_one, 5, NULL, 0, out, sizeof out, &o) == UMLAZGRIN_ROOM_SMALL);
     expect(umlazgrin_evaluate(NULL, 0, 9, room, UMLAZGRIN_ROOM, NULL, 0, &e) == UMLAZGRIN_ENDS_EARLY);
     expect(umlazgrin_match(NULL, 0, 9, room, UMLAZGRIN_ROOM, NULL, 0, &m) == UMLAZGRIN_ENDS_EARLY);
+    expect(umlazgrin_match_place(NULL, 0, 9, room, UMLAZGRIN_ROOM, NULL, 0, &m, &p) == UMLAZGRIN_ENDS_EARLY);
+    expect(umlazgrin_match_place(first_of_one, 5, 5, NULL, 0, NULL, 0, &m, &p) == UMLAZGRIN_ROOM_SMALL);
     expect(umlazgrin_check(NULL, 0, room, UMLAZGRIN_ROOM, &c) == UMLAZGRIN_ENDS_EARLY);
     expect(umlazgrin_write(NULL, 0, NULL, 0, NULL, 0, &w) == UMLAZGRIN_ROOM_SMALL);
-    expect(o.length == 7 && e.length == 7 && m.names == 7 && c.units == 7 && w.length == 7);
+    expect(o.length == 7 && e.length == 7 && m.names == 7 && p.bytes[0] == 7 && c.units == 7 && w.length == 7);
 }
 
 static void evaluate(void) {
@@ -77,6 +80,103 @@ static void third_name(void) {
     expect(r.names == 7);
 }
 
+/* ---- the place of a match that fails */
+
+static struct umlazgrin_matched parts;
+static struct umlazgrin_place place;
+
+/* Matches with a report and a place, too, that the function cannot take for its own. umlazgrin_match must return and leave the same. */
+static uint8_t match_place(const uint8_t *forms, size_t length, size_t first, size_t room_length, size_t out_length) {
+    static uint8_t same_room[sizeof room], same_out[sizeof out];
+    struct umlazgrin_matched same;
+    fill();
+    memset(&same, 0xc3, sizeof same);
+    uint8_t number = umlazgrin_match(forms, length, first, room, room_length, out, out_length, &same);
+    memcpy(same_room, room, sizeof room);
+    memcpy(same_out, out, sizeof out);
+    fill();
+    memset(&parts, 0xc3, sizeof parts);
+    memset(&place, 0xc3, sizeof place);
+    expect(umlazgrin_match_place(forms, length, first, room, room_length, out, out_length, &parts, &place) == number);
+    expect(!memcmp(room, same_room, sizeof room) && !memcmp(out, same_out, sizeof out) && !memcmp(&parts, &same, sizeof same));
+    return number;
+}
+
+/* A failure leaves the output and the report, and of the room nothing but zeros. */
+static int fails_clean(const uint8_t *forms, size_t length, size_t first) {
+    return match_place(forms, length, first, UMLAZGRIN_ROOM, sizeof out) == UMLAZGRIN_NO_MATCH && cleared(UMLAZGRIN_ROOM) &&
+           all(out, sizeof out, 0x5a) && all((const uint8_t *)&parts, sizeof parts, 0xc3);
+}
+
+/* Pattern and expression, and the last byte of the path. */
+static void places(void) {
+    static const struct { size_t length, first; uint8_t path, forms[10]; } failures[] = {
+        {2, 1, 1, {0x05, 0x06}},
+        {4, 1, 1, {0x05, 0xff, 0x05, 0x06}},
+        {4, 3, 1, {0xff, 0x05, 0x06, 0x05}},
+        {6, 3, 2, {0xff, 0x05, 0x06, 0xff, 0x07, 0x06}},
+        {6, 3, 2, {0xff, 0x05, 0x06, 0xff, 0x07, 0x08}},
+        {6, 3, 3, {0xff, 0x05, 0x06, 0xff, 0x05, 0x07}},
+        {10, 5, 5, {0xff, 0x05, 0xff, 0x01, 0x80, 0xff, 0x05, 0xff, 0x02, 0x80}},
+        {10, 5, 7, {0xff, 0x05, 0xff, 0x01, 0x80, 0xff, 0x05, 0xff, 0x01, 0x01}},
+        /* a pair where the pattern has an atom, and an atom where it wants a pair */
+        {8, 3, 3, {0xff, 0x05, 0x06, 0xff, 0x05, 0xff, 0x06, 0x07}},
+        {8, 5, 3, {0xff, 0x05, 0xff, 0x06, 0x07, 0xff, 0x05, 0x06}},
+        /* one name for two trees: the later place */
+        {10, 7, 3, {0xff, 0xff, 0x3a, 0x41, 0xff, 0x3a, 0x41, 0xff, 0x05, 0x06}},
+        /* ($ . 5) goes into a pair */
+        {6, 3, 2, {0xff, 0x24, 0x05, 0xff, 0x06, 0x07}},
+    };
+    for (size_t i = 0; i < sizeof failures / sizeof *failures; i++) {
+        expect(fails_clean(failures[i].forms, failures[i].length, failures[i].first));
+        expect(all(place.bytes, 63, 0) && place.bytes[63] == failures[i].path);
+    }
+}
+
+/* So many turns, all to the left or all to the right, then an atom. Returns the form's length. */
+static size_t nest(uint8_t *form, size_t turns, int right, uint8_t atom) {
+    memset(form, 0x80, 2 * turns + 1);
+    for (size_t i = 0; i < turns; i++) form[right ? 2 * i : i] = 0xff;
+    form[right ? 2 * turns : turns] = atom;
+    return 2 * turns + 1;
+}
+
+static int fails_deep(size_t turns, int right) {
+    static uint8_t forms[2 * UMLAZGRIN_FORM];
+    size_t first = nest(forms, turns, right, 0x05);
+    return fails_clean(forms, first + nest(forms + first, turns, right, 0x06), first);
+}
+
+/* A turn is a bit, the first the lowest, with one more on top. 511 turns fill the place; more do not fit. */
+static void deep_places(void) {
+    expect(fails_deep(7, 0) && all(place.bytes, 63, 0) && place.bytes[63] == 0x80);
+    expect(fails_deep(8, 0) && all(place.bytes, 62, 0) && place.bytes[62] == 0x01 && place.bytes[63] == 0);
+    expect(fails_deep(8, 1) && all(place.bytes, 62, 0) && place.bytes[62] == 0x01 && place.bytes[63] == 0xff);
+    expect(fails_deep(510, 1) && place.bytes[0] == 0x7f && all(place.bytes + 1, 63, 0xff));
+    expect(fails_deep(511, 0) && place.bytes[0] == 0x80 && all(place.bytes + 1, 63, 0));
+    expect(fails_deep(511, 1) && all(place.bytes, 64, 0xff));
+    for (int right = 0; right < 2; right++) {
+        expect(fails_deep(512, right) && all(place.bytes, 64, 0));
+        expect(fails_deep(2000, right) && all(place.bytes, 64, 0));
+    }
+}
+
+/* A match, a third name and every refusal leave the place. */
+static void no_place(void) {
+    const uint8_t one[] = {0xff, 0x3a, 0x41, 0xff, 0x05, 0x06};
+    const uint8_t three[] = {0xff, 0xff, 0x3a, 0x41, 0xff, 0xff, 0x3a, 0x42, 0xff, 0x3a, 0x43, 0xff, 0x05, 0xff, 0x06, 0x07};
+    const uint8_t other[] = {0x05, 0x06};
+    const uint8_t kept = 0xc3;
+    expect(match_place(one, 6, 3, UMLAZGRIN_ROOM, sizeof out) == UMLAZGRIN_ANSWERED && parts.names == 1 && all(place.bytes, 64, kept));
+    expect(match_place(one, 6, 3, UMLAZGRIN_ROOM, 3) == UMLAZGRIN_OUTPUT_SHORT && all(place.bytes, 64, kept));
+    expect(match_place(one, 6, 3, UMLAZGRIN_ROOM - 1, sizeof out) == UMLAZGRIN_ROOM_SMALL && untouched() && all(place.bytes, 64, kept));
+    expect(match_place(three, sizeof three, 11, UMLAZGRIN_ROOM, sizeof out) == UMLAZGRIN_TOO_MANY_NAMES && all(place.bytes, 64, kept));
+    expect(match_place(other, 1, 1, UMLAZGRIN_ROOM, sizeof out) == UMLAZGRIN_ENDS_EARLY && all(place.bytes, 64, kept));
+    expect(match_place(other, 2, 2, UMLAZGRIN_ROOM, sizeof out) == UMLAZGRIN_BYTES_AFTER && all(place.bytes, 64, kept));
+    /* a failure writes nothing to the output, so it needs none */
+    expect(match_place(other, 2, 1, UMLAZGRIN_ROOM, 0) == UMLAZGRIN_NO_MATCH && all(place.bytes, 63, 0) && place.bytes[63] == 1);
+}
+
 static void check_and_write(void) {
     struct umlazgrin_checked c = {7};
     struct umlazgrin_written w = {7, 7};
@@ -95,6 +195,9 @@ int main(void) {
     evaluate();
     match();
     third_name();
+    places();
+    deep_places();
+    no_place();
     check_and_write();
     printf("C: %u facts, %u failed\n", tried, failed);
     return failed ? EXIT_FAILURE : EXIT_SUCCESS;

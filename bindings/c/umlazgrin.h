@@ -2,11 +2,12 @@
  * serialised form and of the readable notation, on bytes that the caller lends. Link libumlazgrin.a; of C's library it needs memcpy
  * and memset only.
  *
- * Each of the ten functions returns 0 for an answer, or the number of a refusal (1 to 16; the matcher also 100 and 101). What it leaves
+ * Each of the eleven functions returns 0 for an answer, or the number of a refusal (1 to 16; the matcher also 100 and 101). What it leaves
  * behind is proved of it, for all inputs:
  *   - an answer fills in *report and writes the first bytes of out, as many as the report says, and none after them (umlazgrin_check and
  *     umlazgrin_text_fault have no out: they write the report and the room alone);
  *   - any other return leaves out and *report as they came in;
+ *   - umlazgrin_match_place fills in *place where it returns 100; every other return leaves *place as it came in;
  *   - room is all zero after every return but refusal 1, which leaves it as it came in. What it holds before does not matter.
  *
  * Checked here: every length. A room that is short is refusal 1, a result that does not fit refusal 14, a form that is too long,
@@ -16,8 +17,8 @@
  * The caller's duty, which nothing checks:
  *   - a pointer has as many bytes behind it as its length says, readable (form, forms, text, texts) or readable and writable (room, out);
  *     with length 0 it is never followed and may be null;
- *   - report points to a whole report, aligned as its type is; it is never null;
- *   - room, out and *report do not overlap each other, and none overlaps the form or text; no other thread uses them during the call;
+ *   - report points to a whole report, aligned as its type is, and place to 64 bytes; neither is ever null;
+ *   - room, out, *report and *place do not overlap each other, and none overlaps the form or text; no other thread uses them during the call;
  *   - the calling thread has 2 MiB of stack left (README.md says what was measured).
  * There is no state between calls, nothing is allocated, and threads may call at once with room of their own. */
 #ifndef UMLAZGRIN_H
@@ -69,6 +70,10 @@ struct umlazgrin_evaluated { size_t length, steps, units; };
 /* How many names were bound, 0 to 2, and where in out each part ends: the first name's atom, its tree, the second's, its tree.
  * Parts follow each other from the start of out; a part that is not there has no bytes. */
 struct umlazgrin_matched { size_t names, name_1, node_1, name_2, node_2; };
+/* A place in the expression, as a path from its root: one number, its highest byte first, zeros in front. Its bits from the lowest are
+ * turns, 0 left and 1 right, up to the top bit: the root is 1, its left part 2, its right part 3, the left part of that 5. 511 turns fit;
+ * all zero is a place that is deeper. The atom of the bytes behind the zeros is a program that gives the part that stands there. */
+struct umlazgrin_place { uint8_t bytes[64]; };
 /* The units that reading the form costs. */
 struct umlazgrin_checked { size_t units; };
 struct umlazgrin_written { size_t length, units; };
@@ -86,6 +91,12 @@ uint8_t umlazgrin_evaluate(const uint8_t *forms, size_t forms_length, size_t fir
 /* Matches the expression, the bytes of forms after the first ones, against the pattern, the first bytes; writes what was bound. */
 uint8_t umlazgrin_match(const uint8_t *forms, size_t forms_length, size_t first, uint8_t *room, size_t room_length,
                         uint8_t *out, size_t out_length, struct umlazgrin_matched *report);
+
+/* The same, and where it returns 100 the place at which the expression first disagrees with the pattern, left before right: a different
+ * atom; a pair where the pattern has an atom; an atom where the pattern wants a pair; a name's later tree, which is not its earlier one.
+ * It returns what umlazgrin_match returns, and leaves out, *report and room as that does. */
+uint8_t umlazgrin_match_place(const uint8_t *forms, size_t forms_length, size_t first, uint8_t *room, size_t room_length,
+                              uint8_t *out, size_t out_length, struct umlazgrin_matched *report, struct umlazgrin_place *place);
 
 /* Reads the form and does no more: whether it is one, and its units. */
 uint8_t umlazgrin_check(const uint8_t *form, size_t form_length, uint8_t *room, size_t room_length,

@@ -9,7 +9,7 @@ fn main() {
             let said: Vec<String> = bindings.iter().map(|b| format!(" {}={}", hex(&b.name), hex(&b.tree))).collect();
             println!("ok{}", said.concat());
         }
-        Ok(Match::NoMatch) => println!("no match"),
+        Ok(Match::NoMatch(_)) => println!("no match"),
         Ok(Match::TooManyNames) => println!("too many names"),
         Err(refusal) => println!("no {}", refusal.number()),
     }

@@ -33,10 +33,29 @@ pub struct Parts {
     pub node_2: usize,
 }
 
+/// Where a match failed: the first place, left before right, at which the expression disagrees with the pattern. It is a path from the
+/// expression's root, one number, its highest byte first. Its bits from the lowest are turns, 0 left and 1 right, up to the top
+/// bit: the root is 1, its left part 2, its right part 3, the left part of that 5. All zero is a place deeper than 511 turns.
+#[derive(Clone, Copy, Debug, PartialEq, Eq)]
+pub struct Place(pub [u8; 64]);
+
+impl Place {
+    /// The path in its shortest bytes, none where the place is too deep. As an atom it is a program that gives the part of the
+    /// expression that stands there.
+    pub fn path(&self) -> &[u8] {
+        let zeros = self.0.iter().take_while(|b| **b == 0).count();
+        &self.0[zeros..]
+    }
+
+    pub fn is_too_deep(&self) -> bool {
+        self.path().is_empty()
+    }
+}
+
 #[derive(Clone, Copy, Debug, PartialEq, Eq)]
 pub enum Matched {
     Parts(Parts),
-    NoMatch,
+    NoMatch(Place),
     TooManyNames,
 }
 
@@ -84,14 +103,15 @@ pub fn evaluate(forms: &[u8], first: usize, room: &mut [u8], out: &mut [u8]) -> 
 
 /// Matches the expression, the bytes of `forms` from `first` on, against the pattern, those before.
 pub fn matches(forms: &[u8], first: usize, room: &mut [u8], out: &mut [u8]) -> Result<Matched, Refusal> {
-    let mut report = [0; 5];
+    let (mut report, mut place) = ([0; 5], Place([0; 64]));
     let number = unsafe {
-        raw::umlazgrin_match(
+        raw::umlazgrin_match_place(
             forms.as_ptr(), forms.len(), first, room.as_mut_ptr(), room.len(), out.as_mut_ptr(), out.len(), &mut report,
+            &mut place.0,
         )
     };
     match number {
-        100 => return Ok(Matched::NoMatch),
+        100 => return Ok(Matched::NoMatch(place)),
         101 => return Ok(Matched::TooManyNames),
         _ => refused(number)?,
     }

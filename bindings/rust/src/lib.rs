@@ -20,6 +20,7 @@ pub mod lent;
 pub mod raw;
 mod refusal;
 
+pub use lent::Place;
 pub use refusal::Refusal;
 
 /// Bytes of working room that every function needs, at least.
@@ -77,7 +78,8 @@ pub struct Binding {
 pub enum Match {
     /// At most two, in the order in which they were bound.
     Bound(Vec<Binding>),
-    NoMatch,
+    /// Where the expression first disagrees with the pattern.
+    NoMatch(Place),
     /// The pattern asks for a third name.
     TooManyNames,
 }
@@ -118,7 +120,7 @@ impl Umlazgrin {
     pub fn matches(&mut self, pattern: &[u8], expression: &[u8]) -> Result<Match, Refusal> {
         let forms = [pattern, expression].concat();
         let p = match lent::matches(&forms, pattern.len(), &mut self.room, &mut self.out)? {
-            lent::Matched::NoMatch => return Ok(Match::NoMatch),
+            lent::Matched::NoMatch(place) => return Ok(Match::NoMatch(place)),
             lent::Matched::TooManyNames => return Ok(Match::TooManyNames),
             lent::Matched::Parts(p) => p,
         };

@@ -14,6 +14,10 @@ extern "C" {
         forms: *const u8, forms_length: usize, first: usize, room: *mut u8, room_length: usize, out: *mut u8,
         out_length: usize, report: *mut [usize; 5],
     ) -> u8;
+    pub fn umlazgrin_match_place(
+        forms: *const u8, forms_length: usize, first: usize, room: *mut u8, room_length: usize, out: *mut u8,
+        out_length: usize, report: *mut [usize; 5], place: *mut [u8; 64],
+    ) -> u8;
     pub fn umlazgrin_check(
         form: *const u8, form_length: usize, room: *mut u8, room_length: usize, report: *mut [usize; 1],
     ) -> u8;

@@ -67,6 +67,24 @@ fn evaluation() {
     assert_eq!(u.evaluate(&bytes("02"), &[]), Err(Refusal::EndsEarly));
 }
 
+/// Where a match failed.
+fn path(said: Match) -> Vec<u8> {
+    match said {
+        Match::NoMatch(place) => place.path().to_vec(),
+        _ => panic!("{said:?}"),
+    }
+}
+
+/// The path as a program gives what the expression has at the place.
+#[test]
+fn the_part_at_the_place() {
+    let mut u = Umlazgrin::new();
+    let expression = bytes("ff05ffff06ff02ff038080"); // (f (r 2 3))
+    let place = path(u.matches(&bytes("ff05ffff04ff02ff038080"), &expression).unwrap());
+    assert_eq!(place, [9]);
+    assert_eq!(u.evaluate(&place, &expression).unwrap().tree, [6]);
+}
+
 #[test]
 fn matching() {
     let mut u = Umlazgrin::new();
@@ -77,7 +95,9 @@ fn matching() {
     assert_eq!(u.matches(&two, &bytes("ff0506")), Ok(bound(&[("41", "05"), ("42", "06")])));
     assert_eq!(u.matches(&bytes("ff3a41"), &bytes("ff0506")), Ok(bound(&[("41", "ff0506")])));
     assert_eq!(u.matches(&bytes("ff2405"), &bytes("07")), Ok(bound(&[("05", "07")])));
-    assert_eq!(u.matches(&bytes("ff2405"), &bytes("ff0607")), Ok(Match::NoMatch));
+    assert_eq!(u.matches(&bytes("ff2405"), &bytes("ff0607")).map(path), Ok(bytes("02")));
+    assert_eq!(u.matches(&bytes("ff05ff0180"), &bytes("ff05ff0280")).map(path), Ok(bytes("05")));
+    assert_eq!(u.matches(&bytes("ffff3a41ff3a41"), &bytes("ff0506")).map(path), Ok(bytes("03")));
     assert_eq!(u.matches(&bytes("05"), &bytes("05")), Ok(bound(&[])));
     assert_eq!(u.matches(&bytes("ffff3a41ffff3a42ff3a43"), &bytes("ff05ff0607")), Ok(Match::TooManyNames));
     assert_eq!(u.matches(&two, &bytes("ff05")), Err(Refusal::EndsEarly));

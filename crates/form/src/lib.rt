@@ -366,7 +366,7 @@ pub fn length_node<'a>(form: &'a [u8], room: &'a [u8], n: usize, limit: usize) -
 }
 
 // Copies src to the front of dst.
-fn copy(src: &[u8], dst: &mut [u8])
+pub fn copy(src: &[u8], dst: &mut [u8])
     requires { ⌜ length (now src) ≤ length (now dst) ⌝ }
     ensures { λ _. ⌜ now (dst .exit) ≡ now (src .entry) ++ drop (length (now (src .entry))) (now (dst .entry)) ⌝ }
 {
@@ -400,7 +400,8 @@ fn put_long(b: &[u8], out: &mut [u8]) -> usize
     n + 2
 }
 
-fn put_atom(b: &[u8], out: &mut [u8]) -> usize
+// Writes the atom of these bytes to the front of out, which has room for it.
+pub fn put_atom(b: &[u8], out: &mut [u8]) -> usize
     requires { ⌜ (length (now b) ≤ atom-most) × (length (write-atom (now b)) ≤ length (now out)) ⌝ }
     ensures { λ r. ⌜ Wrote (write-atom (now (b .entry))) r (now (out .entry)) (now (out .exit)) ⌝ }
 {

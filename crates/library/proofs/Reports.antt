@@ -6,7 +6,7 @@ use Prim.Native.Nat.{ℕ}
 use mir.Val.{boolByte}
 use Rattle.refusals.specs.declared.Refusal.{Refusal}
 use Rattle.refusals.specs.Numbers.{number-of}
-use Rattle.meaning.specs.Outcome.{Outcome, Told, Settles}
+use Rattle.meaning.specs.Outcome.{Outcome, plain, no-match, too-many-names, Told, values, number, told, Settles}
 use Rattle.meaning.specs.Run.{mark-number}
 use Rattle.form.specs.declared.ReadAnswer.{ReadAnswer}
 use Rattle.form.specs.declared.ReadAnswer.the-variants.{Read, Refused as not-read}
@@ -17,7 +17,7 @@ use Rattle.evaluation.specs.declared.EvalAnswer.{EvalAnswer}
 use Rattle.evaluation.specs.declared.EvalAnswer.the-variants.{Value, Refused as not-evaluated}
 use Rattle.evaluation.specs.Bytes as evaluation
 use Rattle.matcher.specs.declared.Parts.{Parts}
-use Rattle.matcher.specs.declared.MatchAnswer.{MatchAnswer}
+use Rattle.matcher.specs.declared.Matching.{Matching}
 use Rattle.matcher.specs.declared.MatchAnswer.the-variants.{Matched, NoMatch, TooManyNames, Refused as not-matched}
 use Rattle.matcher.specs.Outcome as matcher
 use Rattle.optimiser.specs.declared.Report.{Report}
@@ -27,7 +27,7 @@ use Rattle.optimiser.specs.Optimised as optimiser
 use Rattle.texts.specs.declared.FaultAnswer.{FaultAnswer}
 use Rattle.texts.specs.declared.FaultAnswer.the-variants.{At, NoFault, Refused as no-fault-told}
 use Rattle.texts.specs.Faults.{fault-says}
-use Rattle.library.specs.Reports.{number-told, report-told, Reports}
+use Rattle.library.specs.Reports.{number-told, report-told, place-told, Reports, Places}
 
 -- whatever an answer tells, the number and the report follow from it
 module _ {A : Type 0} (tells : A → Told) (o : Outcome) (s s₁ w w₁ q : List ℕ) (a b : A) (h : Settles tells o s s₁ w w₁ a) (i : a ≡ b) where
@@ -69,22 +69,36 @@ module _ (o : Outcome) (s s₁ w w₁ q : List ℕ) (a : EvalAnswer) (h : Settle
 
 -- ---- match
 
-module _ (o : Outcome) (s s₁ w w₁ q : List ℕ) (a : MatchAnswer) (h : Settles matcher.says o s s₁ w w₁ a) where
-  pub match-refused : (e : Refusal) (n : ℕ) → a ≡ not-matched e → n ≡ number-of e → Reports o s s₁ w w₁ q q n
-  unfolding matcher.says number-told report-told
-  match-refused e n i j = reported matcher.says o s s₁ w w₁ q a (not-matched e) h i q n j refl
+module _ (o : Outcome) (s s₁ w w₁ q p : List ℕ) (m : Matching) (h : matcher.Matches o s s₁ w w₁ m) where
+  placed : (t : Told) (q₁ p₁ : List ℕ) (n : ℕ) → matcher.says m ≡ t → n ≡ number-told t → q₁ ≡ report-told t q → p₁ ≡ place-told t p → Places o s s₁ w w₁ q q₁ p p₁ n
+  placed t q₁ p₁ n i j k l = let e : t ≡ told o = sym i ∙ h .settles .delivers .answer in record {
+    reports = record {
+      returns = j ∙ ap number-told e;
+      reports = k ∙ ap (λ (x : Told). report-told x q) e;
+      room = h .settles .room;
+      out = h .settles .delivers .out;
+    };
+    place = l ∙ ap (λ (x : Told). place-told x p) e;
+  }
 
-  pub match-none : a ≡ NoMatch → Reports o s s₁ w w₁ q q 100
-  unfolding matcher.says number-told report-told
-  match-none i = reported matcher.says o s s₁ w w₁ q a NoMatch h i q 100 refl refl
+  pub match-refused : (e : Refusal) (n : ℕ) → m .answer ≡ not-matched e → n ≡ number-of e → Places o s s₁ w w₁ q q p p n
+  unfolding matcher.says matcher.says-at number-told report-told place-told
+  match-refused e n i j = placed (number (number-of e)) q p n (ap (matcher.says-at (m .place)) i) j refl refl
 
-  pub match-many : a ≡ TooManyNames → Reports o s s₁ w w₁ q q 101
-  unfolding matcher.says number-told report-told
-  match-many i = reported matcher.says o s s₁ w w₁ q a TooManyNames h i q 101 refl refl
+  pub match-none : m .answer ≡ NoMatch → Places o s s₁ w w₁ q q p (m .place) 100
+  unfolding matcher.says matcher.says-at number-told report-told place-told
+  match-none i = placed (values no-match (m .place)) q (m .place) 100 (ap (matcher.says-at (m .place)) i) refl refl refl
 
-  pub match-done : (p : Parts) → a ≡ Matched p → Reports o s s₁ w w₁ q (p .count ∷ p .name_1 ∷ p .node_1 ∷ p .name_2 ∷ p .node_2 ∷ []) 0
-  unfolding matcher.says number-told report-told
-  match-done p i = reported matcher.says o s s₁ w w₁ q a (Matched p) h i _ 0 refl refl
+  pub match-many : m .answer ≡ TooManyNames → Places o s s₁ w w₁ q q p p 101
+  unfolding matcher.says matcher.says-at number-told report-told place-told
+  match-many i = placed (values too-many-names []) q p 101 (ap (matcher.says-at (m .place)) i) refl refl refl
+
+  pub match-done : (e : Parts) → m .answer ≡ Matched e → Places o s s₁ w w₁ q (e .count ∷ e .name_1 ∷ e .node_1 ∷ e .name_2 ∷ e .node_2 ∷ []) p p 0
+  unfolding matcher.says matcher.says-at number-told report-told place-told
+  match-done e i = placed (values plain (e .count ∷ e .name_1 ∷ e .node_1 ∷ e .name_2 ∷ e .node_2 ∷ [])) _ p 0 (ap (matcher.says-at (m .place)) i) refl refl refl
+
+pub place-dropped : (o : Outcome) (s s₁ w w₁ q q₁ p p₁ : List ℕ) (n : ℕ) → Places o s s₁ w w₁ q q₁ p p₁ n → Reports o s s₁ w w₁ q q₁ n
+place-dropped o s s₁ w w₁ q q₁ p p₁ n h = h .reports
 
 -- ---- read
 

@@ -14,7 +14,7 @@ ghost use Rattle.evaluation.specs.Bytes as evaluation;
 ghost use Rattle.matcher.specs.Outcome as matcher;
 ghost use Rattle.texts.specs.Outcomes as notation;
 ghost use Rattle.texts.specs.Faults as faults;
-ghost use Rattle.library.specs.Reports.{Reports};
+ghost use Rattle.library.specs.Reports.{Reports, Places};
 
 // What the matcher returns beside the refusals' numbers.
 const NO_MATCH: u8 = 100;
@@ -60,7 +60,36 @@ pub extern "C" fn umlazgrin_evaluate(
     }
 }
 
-// report: how many names, and where each of the four parts ends.
+// report: how many names, and where each of the four parts ends. place: where a match that fails stops.
+#[no_mangle]
+pub extern "C" fn umlazgrin_match_place(
+    forms: &[u8],
+    first: usize,
+    room: &mut [u8],
+    out: &mut [u8],
+    report: &mut [usize; 5],
+    place: &mut [u8; 64],
+) -> u8
+    ensures { λ n. ⌜ Places (matcher.outcome (now (forms .entry)) first (length (now (room .entry))) (length (now (out .entry)))) (now (room .entry)) (now (room .exit)) (now (out .entry)) (now (out .exit)) (now (report .entry)) (now (report .exit)) (now (place .entry)) (now (place .exit)) n ⌝ }
+{
+    let m = umlazgrin::matches(forms, first, room, out);
+    let answer = m.answer;
+    let stop = m.place;
+    match answer {
+        MatchAnswer::Refused(e) => refusals::number_of(e),
+        MatchAnswer::NoMatch => {
+            *place = stop;
+            NO_MATCH
+        }
+        MatchAnswer::TooManyNames => TOO_MANY_NAMES,
+        MatchAnswer::Matched(p) => {
+            *report = [p.count, p.name_1, p.node_1, p.name_2, p.node_2];
+            0
+        }
+    }
+}
+
+// The same without the place.
 #[no_mangle]
 pub extern "C" fn umlazgrin_match(
     forms: &[u8],
@@ -71,15 +100,8 @@ pub extern "C" fn umlazgrin_match(
 ) -> u8
     ensures { λ n. ⌜ Reports (matcher.outcome (now (forms .entry)) first (length (now (room .entry))) (length (now (out .entry)))) (now (room .entry)) (now (room .exit)) (now (out .entry)) (now (out .exit)) (now (report .entry)) (now (report .exit)) n ⌝ }
 {
-    match umlazgrin::matches(forms, first, room, out) {
-        MatchAnswer::Refused(e) => refusals::number_of(e),
-        MatchAnswer::NoMatch => NO_MATCH,
-        MatchAnswer::TooManyNames => TOO_MANY_NAMES,
-        MatchAnswer::Matched(p) => {
-            *report = [p.count, p.name_1, p.node_1, p.name_2, p.node_2];
-            0
-        }
-    }
+    let mut place = [0u8; 64];
+    umlazgrin_match_place(forms, first, room, out, report, &mut place)
 }
 
 // Reads the form and no more. report: units.

@@ -16,7 +16,12 @@ long-name : match-line (0xff ∷ 0x24 ∷ 0x85 ∷ 0x66 ∷ 0x69 ∷ 0x72 ∷ 0x
 unfolding match-line worked outcome
 long-name = refl
 
--- ($ . $) and 5: `no match`
-dollar : match-line (0xff ∷ 0x24 ∷ 0x24 ∷ 0x05 ∷ []) 3 65_536 32_768 ≡ 110 ∷ 111 ∷ 32 ∷ 109 ∷ 97 ∷ 116 ∷ 99 ∷ 104 ∷ 10 ∷ []
+-- ($ . $) and 5: `no match 01`
+dollar : match-line (0xff ∷ 0x24 ∷ 0x24 ∷ 0x05 ∷ []) 3 65_536 32_768 ≡ 110 ∷ 111 ∷ 32 ∷ 109 ∷ 97 ∷ 116 ∷ 99 ∷ 104 ∷ 32 ∷ 48 ∷ 49 ∷ 10 ∷ []
 unfolding match-line worked outcome
 dollar = refl
+
+-- ((: . A) . (: . A)) and (5 . 6): the later of the two clashes, `no match 03`
+clash : match-line (0xff ∷ 0xff ∷ 0x3a ∷ 0x41 ∷ 0xff ∷ 0x3a ∷ 0x41 ∷ 0xff ∷ 0x05 ∷ 0x06 ∷ []) 7 65_536 32_768 ≡ 110 ∷ 111 ∷ 32 ∷ 109 ∷ 97 ∷ 116 ∷ 99 ∷ 104 ∷ 32 ∷ 48 ∷ 51 ∷ 10 ∷ []
+unfolding match-line worked outcome
+clash = refl

@@ -1,29 +1,31 @@
 -- A match binds at most two names, and each has at most 64 bytes; so its parts' line is short. Assumes nothing.
 use mathlib.Core.Path.{_≡_, refl, ap, subst}
 use mathlib.Core.List.{List, [], _∷_, _++_}
-use mathlib.Core.Bool.{true, false, _&&_, not}
+use mathlib.Core.Bool.{Bool, true, false, _&&_, not}
 use mathlib.Core.Option.{Option, none, some}
 use Prim.Native.Nat.{ℕ, _+_, _*_, _≤_}
 use native.Mathlib.Omega.{arith}
 use lib.Dec.{ltb}
+use borrow.Author.Tests.{lt-ltb}
 use lib.ListN.{length, take, drop, length-append}
 use Rattle.meaning.specs.Tree.{Tree, atom, pair, same-bytes, equal-to, is-byte}
-use Rattle.meaning.specs.Limits.{atom-limit}
+use Rattle.meaning.specs.Limits.{atom-limit, path-limit}
+use Rattle.meaning.specs.Number.{number, bytes-of}
 use Rattle.meaning.specs.Meter.{Out, done, stop}
 use Rattle.meaning.specs.Form.{Reading, read-form, Narrow, write-length, write-atom, write}
 use Rattle.meaning.specs.Match as meaning
-use Rattle.meaning.specs.Outcome.{plain, answered}
+use Rattle.refusals.specs.Numbers.{number-of}
+use Rattle.meaning.specs.Outcome.{Outcome, plain, no-match, too-many-names, answered, refused}
 use Rattle.meaning.proofs.Tests.{on-bool}
 use Rattle.meaning.proofs.ReadWrite.{form-read}
 use Rattle.meaning.proofs.Yields.{either-way}
 use Rattle.form.specs.Both.{Both, read-both}
 use Rattle.matcher.specs.Outcome.{worked, parts, joined, outcome}
-use Rattle.matcher.proofs.Whole.{Parted, match-parted}
+use Rattle.matcher.proofs.Whole.{Parted, match-parted, match-placed}
 use Rattle.lines.specs.Hex.{hex-of}
 use Rattle.lines.specs.Text.{out-most, line-most}
-use Rattle.lines.proofs.Lengths.{hex-length}
-use Rattle.outcome.proofs.Outcomes.{with-most}
-use Rattle.match_line.specs.Line.{binding-text, bindings-text, bound-line, bound, line-of, match-line}
+use Rattle.lines.proofs.Lengths.{hex-length, no-most}
+use Rattle.match_line.specs.Line.{binding-text, bindings-text, bound-line, no-match-at, no-match-line, too-many-line, bound, line-of, match-line}
 
 abbrev pub Short : meaning.Binding → Type 0
 Short k = length (k .name) ≤ atom-limit
@@ -38,7 +40,7 @@ Few (j ∷ k ∷ l ∷ ks) = ⊥
 
 IfMatched : meaning.Match → Type 0
 IfMatched (meaning.matched ks) = Few ks
-IfMatched meaning.no-match = Unit {0}
+IfMatched (meaning.no-match ds) = Unit {0}
 IfMatched meaning.too-many-names = Unit {0}
 
 insert-few : (k : meaning.Binding) (ks : List meaning.Binding) → Short k → Few ks → IfMatched (meaning.insert k ks)
@@ -52,7 +54,7 @@ unfolding meaning.unify-bindings IfMatched
 unify-few ks n t h hs = go (meaning.get n ks)
   where
     go : (o : Option Tree) → IfMatched (elim o [
-      | some u ↦ elim (equal-to u t) [ true ↦ meaning.matched ks | false ↦ meaning.no-match ]
+      | some u ↦ elim (equal-to u t) [ true ↦ meaning.matched ks | false ↦ meaning.no-match [] ]
       | none ↦ meaning.insert (record { name = n; node = t }) ks
     ])
     go (some u) = either-way IfMatched (equal-to u t) _ _ hs tt
@@ -66,10 +68,16 @@ at-atom-few a b s ks h hs =
     (either-way IfMatched (is-byte meaning.sexp-match a) _ _
     (either-way IfMatched (is-byte meaning.sexp-match b && is-byte meaning.sexp-match s) _ _ tt (unify-few ks b (atom s) h hs)) tt)
 
-then-few : (m : meaning.Match) (f : List meaning.Binding → meaning.Match) → IfMatched m → ((ks : List meaning.Binding) → Few ks → IfMatched (f ks)) → IfMatched (meaning._and-then_ m f)
-unfolding meaning._and-then_ IfMatched
-then-few (meaning.matched ks) f h k = k ks h
-then-few meaning.no-match f h k = tt
+few-part : (d : Bool) (m : meaning.Match) → IfMatched m → IfMatched (meaning.in-part d m)
+unfolding meaning.in-part IfMatched
+few-part d (meaning.matched ks) h = h
+few-part d (meaning.no-match ds) h = tt
+few-part d meaning.too-many-names h = tt
+
+then-few : (m : meaning.Match) (f : List meaning.Binding → meaning.Match) → IfMatched m → ((ks : List meaning.Binding) → Few ks → IfMatched (f ks)) → IfMatched (meaning._and-then_ (meaning.in-part false m) (λ ks. meaning.in-part true (f ks)))
+unfolding meaning._and-then_ meaning.in-part IfMatched
+then-few (meaning.matched ks) f h k = few-part true (f ks) (k ks h)
+then-few (meaning.no-match ds) f h k = tt
 then-few meaning.too-many-names f h k = tt
 
 match-few : (p s : Tree) (ks : List meaning.Binding) → Narrow p → Few ks → IfMatched (meaning.match-sexp p s ks)
@@ -80,13 +88,13 @@ match-few (pair (atom a) (atom b)) (atom s) ks h hs = at-atom-few a b s ks (h .1
 match-few (pair (atom a) (atom b)) (pair l r) ks h hs =
     either-way IfMatched (is-byte meaning.sexp-match a && not (is-byte meaning.sexp-match b)) _ _
     (unify-few ks b (pair l r) (h .1) hs)
-    (then-few (meaning.match-sexp (atom a) l ks) _ (match-few (atom a) l ks (h .0) hs) (λ js hj. match-few (atom b) r js (h .1) hj))
+    (then-few (meaning.match-sexp (atom a) l ks) (λ js. meaning.match-sexp (atom b) r js) (match-few (atom a) l ks (h .0) hs) (λ js hj. match-few (atom b) r js (h .1) hj))
 match-few (pair (atom a) (pair c d)) (atom s) ks h hs = tt
 match-few (pair (atom a) (pair c d)) (pair l r) ks h hs =
-    then-few (meaning.match-sexp (atom a) l ks) _ (match-few (atom a) l ks (h .0) hs) (λ js hj. match-few (pair c d) r js (h .1) hj)
+    then-few (meaning.match-sexp (atom a) l ks) (λ js. meaning.match-sexp (pair c d) r js) (match-few (atom a) l ks (h .0) hs) (λ js hj. match-few (pair c d) r js (h .1) hj)
 match-few (pair (pair c d) q) (atom s) ks h hs = tt
 match-few (pair (pair c d) q) (pair l r) ks h hs =
-    then-few (meaning.match-sexp (pair c d) l ks) _ (match-few (pair c d) l ks (h .0) hs) (λ js hj. match-few q r js (h .1) hj)
+    then-few (meaning.match-sexp (pair c d) l ks) (λ js. meaning.match-sexp q r js) (match-few (pair c d) l ks (h .0) hs) (λ js hj. match-few q r js (h .1) hj)
 
 -- ---- the work on two forms
 
@@ -176,11 +184,30 @@ parted-most forms first m bytes ns p h =
     let e : length (p .ks) ≤ 2 = few-most (p .ks) (parted-few forms first m bytes ns p) in
     omega arith
 
+prefix-most : (n : ℕ) → n ≤ path-limit → length (write-length n) ≤ 2
+unfolding write-length
+prefix-most n h = on-bool (ltb n 0x40) (λ e. rw (e, write-length) (omega arith)) (λ e. rw (e, lt-ltb n 0x2000 (omega arith), write-length) (omega arith))
+
+pub atom-most : (bs : List ℕ) → length bs ≤ path-limit → length (write-atom bs) ≤ length bs + 2
+unfolding write-atom
+atom-most [] h = omega arith
+atom-most (x ∷ []) h = on-bool (ltb x 0x80) (λ e. rw (e, write-atom) (omega arith)) (λ e. rw (e, write-atom) (omega arith))
+atom-most (x ∷ y ∷ bs) h = omega (arith, length-append (write-length (length (x ∷ y ∷ bs))) (x ∷ y ∷ bs), prefix-most (length (x ∷ y ∷ bs)) h)
+
+place-most : (place : List ℕ) → length (bytes-of (number place)) ≤ path-limit → length (no-match-line place) ≤ line-most
+unfolding no-match-line no-match-at
+place-most place h =
+    let b : List ℕ = write-atom (bytes-of (number place)) in
+    omega (arith, length-append (hex-of b) (10 ∷ []), hex-length b, atom-most (bytes-of (number place)) h)
+
 pub line-short : (forms : List ℕ) (first room-length m : ℕ) → m ≤ out-most → length (match-line forms first room-length m) ≤ line-most
-unfolding match-line line-of
-line-short forms first room-length m h = with-most (λ bytes ns. bound-line (bound (worked (take first forms) (drop first forms)))) (outcome forms first room-length m) go
+unfolding match-line line-of too-many-line
+line-short forms first room-length m h = go (outcome forms first room-length m) refl
   where
-    go : (bytes ns : List ℕ) → outcome forms first room-length m ≡ answered bytes plain ns → length (bound-line (bound (worked (take first forms) (drop first forms)))) ≤ line-most
-    go bytes ns e =
+    go : (o : Outcome) → outcome forms first room-length m ≡ o → length (line-of (bound (worked (take first forms) (drop first forms))) o) ≤ line-most
+    go (answered bytes plain ns) e =
         let p : Parted forms first m bytes ns = match-parted forms first m bytes ns room-length e in
         rw (parted-bound forms first m bytes ns p) (parted-most forms first m bytes ns p h)
+    go (answered bytes no-match ns) e = place-most ns (match-placed forms first m bytes ns room-length e)
+    go (answered bytes too-many-names ns) e = omega arith
+    go (refused n) e = no-most (number-of n)

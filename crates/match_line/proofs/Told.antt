@@ -1,5 +1,5 @@
 -- What an answer says is printed. Assumes nothing.
-use mathlib.Core.Path.{_≡_, sym, _∙_, ap, ap₂}
+use mathlib.Core.Path.{_≡_, sym, _∙_, ap, ap₂, subst}
 use mathlib.Core.List.{List, [], _∷_, _++_, append-nil, append-assoc}
 use Prim.Native.Nat.{ℕ, _+_, _-_, _≤_}
 use native.Mathlib.Omega.{arith}
@@ -8,24 +8,25 @@ use lib.Seq.{take-at, drop-at, take-all, length-take-le}
 use borrow.Author.Tests.{eq-eqb, ne-eqb}
 use Rattle.refusals.specs.declared.Refusal.{Refusal}
 use Rattle.refusals.specs.Numbers.{number-of}
-use Rattle.meaning.specs.Limits.{atom-limit}
+use Rattle.meaning.specs.Limits.{atom-limit, path-limit}
 use Rattle.meaning.specs.Form.{write-atom, write}
+use Rattle.meaning.specs.Number.{number, bytes-of}
 use Rattle.meaning.specs.Match.{Binding}
-use Rattle.meaning.specs.Outcome.{Outcome, plain, no-match, too-many-names, out-after, Settles}
-use Rattle.meaning.proofs.Lent.{Answers, told-answer}
+use Rattle.meaning.specs.Outcome.{Outcome, plain, no-match, too-many-names, refused, out-after}
+use Rattle.meaning.proofs.Lent.{Answers, told-answer, told-refusal}
+use Rattle.form.specs.Writes.{Wrote}
+use Rattle.form.proofs.Lend.{wrote-length}
 use Rattle.matcher.specs.declared.Parts.{Parts}
-use Rattle.matcher.specs.declared.MatchAnswer.{MatchAnswer}
+use Rattle.matcher.specs.declared.Matching.{Matching}
 use Rattle.matcher.specs.declared.MatchAnswer.the-variants.{Matched, NoMatch, TooManyNames, Refused}
-use Rattle.matcher.specs.Outcome.{worked, parts, joined, end, outcome, says, Within}
-use Rattle.matcher.proofs.Whole.{Parted, match-parted}
+use Rattle.matcher.specs.Outcome.{worked, parts, joined, end, outcome, says-at, says, Matches, Within}
+use Rattle.matcher.proofs.Whole.{Parted, match-parted, match-placed}
 use Rattle.lines.specs.Hex.{hex-of}
 use Rattle.lines.specs.Text.{Printed, no-number}
 use Rattle.lines.proofs.Printing as printing
-use Rattle.outcome.specs.Line.{no-match-line, too-many-line, line-with}
-use Rattle.outcome.proofs.Laws.{refusal-told}
-use Rattle.match_line.specs.Line.{binding-text, bindings-text, bound-line, bound, line-of, match-line}
+use Rattle.match_line.specs.Line.{binding-text, bindings-text, bound-line, no-match-at, no-match-line, too-many-line, bound, line-of, match-line}
 use Rattle.match_line.specs.Written.{name-in, NameFrom, both-in, ok-in}
-use Rattle.match_line.proofs.Names.{Few, parted-few, parted-bound}
+use Rattle.match_line.proofs.Names.{Few, parted-few, parted-bound, atom-most}
 use Rattle.match_line.proofs.Found.{both-written}
 
 -- ---- a name and a tree
@@ -151,9 +152,47 @@ module _ (w : List ℕ) (e : Parts) (rest : List ℕ) where
       ∙ sym (append-nil (binding-text (l .name) tree′))))
   shown (k ∷ l ∷ m ∷ ks) few c n₁ t₁ n₂ t₂ j = absurd few
 
+-- the ends, told as a list
+shown-of : (w : List ℕ) (e : Parts) (rest : List ℕ) (ks : List Binding) → Few ks → e .count ∷ e .name_1 ∷ e .node_1 ∷ e .name_2 ∷ e .node_2 ∷ [] ≡ length ks ∷ end 1 ks ∷ end 2 ks ∷ end 3 ks ∷ end 4 ks ∷ []
+    → w ≡ joined (parts ks) ++ rest → ok-in w e ≡ 111 ∷ 107 ∷ bindings-text ks
+shown-of w e rest ks few x y = shown w e rest ks few (cc) (cc) (cc) (cc) (cc) y
+
+-- ---- the place
+
+module _ (path out : List ℕ) (h : length path ≤ path-limit) (l : path-limit + 2 ≤ length out) where
+  pub path-atom : length path ≤ 256
+  path-atom = omega arith
+
+  pub path-fits : length (write-atom path) ≤ length out
+  path-fits = let a : length (write-atom path) ≤ length path + 2 = atom-most path h in omega arith
+
+  module _ (out₁ : List ℕ) (n : ℕ) (w : Wrote (write-atom path) n out out₁) where
+    pub path-within : n ≤ length out₁
+    path-within = let a = path-fits in let b : length out₁ ≡ length out = wrote-length (write-atom path) out out₁ n w path-fits in let c : n ≡ length (write-atom path) = w .count in omega arith
+
+    pub path-count : n ≡ length (take n out₁)
+    path-count = sym (length-take-le n out₁ path-within)
+
+pub path-printed : (path out out₁ s t u v : List ℕ) (n at a b r : ℕ) → Printed (10 ∷ []) u v b r → Printed (hex-of (take n out₁)) t u a b → Printed (110 ∷ 111 ∷ 32 ∷ 109 ∷ 97 ∷ 116 ∷ 99 ∷ 104 ∷ 32 ∷ []) s t at a
+    → Wrote (write-atom path) n out out₁ → Printed (no-match-at path) s v at r
+unfolding no-match-at
+path-printed path out out₁ s t u v n at a b r k g f w =
+    let x : take n out₁ ≡ write-atom path = ap (take n) (w .bytes) ∙ take-at (write-atom path) (drop (length (write-atom path)) out) n (sym (w .count)) in
+    let y : Printed (hex-of (write-atom path)) t u a b = rw x at g in
+    printing.joined (110 ∷ 111 ∷ 32 ∷ 109 ∷ 97 ∷ 116 ∷ 99 ∷ 104 ∷ 32 ∷ []) (hex-of (write-atom path) ++ (10 ∷ [])) s t v at a r
+    (printing.joined (hex-of (write-atom path)) (10 ∷ []) t u v a b r k y) f
+
+module _ (place path : List ℕ) (e : path ≡ bytes-of (number place)) where
+  pub place-path : length (bytes-of (number place)) ≤ path-limit → length path ≤ path-limit
+  place-path h = rw e h
+
+  pub place-printed : (s t : List ℕ) (at r : ℕ) → Printed (no-match-at path) s t at r → Printed (no-match-line place) s t at r
+  unfolding no-match-line
+  place-printed s t at r p = rw e at p
+
 -- ---- the answer
 
-module _ (forms : List ℕ) (first-length : ℕ) (s s′ w w′ : List ℕ) (a : MatchAnswer) (h : Settles says (outcome forms first-length (length s) (length w)) s s′ w w′ a) where
+module _ (forms : List ℕ) (first-length : ℕ) (s s′ w w′ : List ℕ) (m : Matching) (h : Matches (outcome forms first-length (length s) (length w)) s s′ w w′ m) where
   abbrev o : Outcome
   o = outcome forms first-length (length s) (length w)
 
@@ -163,29 +202,38 @@ module _ (forms : List ℕ) (first-length : ℕ) (s s′ w w′ : List ℕ) (a :
   abbrev line : List ℕ
   line = match-line forms first-length (length s) (length w)
 
-  pub matched-line : (e : Parts) (t u v : List ℕ) (at k r : ℕ) → Printed (10 ∷ []) u v k r → Printed (ok-in w′ e) t u at k → a ≡ Matched e → Printed line t v at r
-  unfolding says match-line line-of line-with bound-line out-after
+  pub matched-line : (e : Parts) (t u v : List ℕ) (at k r : ℕ) → Printed (10 ∷ []) u v k r → Printed (ok-in w′ e) t u at k → m .answer ≡ Matched e → Printed line t v at r
+  unfolding says says-at match-line line-of bound-line out-after
   matched-line e t u v at k r q p i =
       let ends : List ℕ = e .count ∷ e .name_1 ∷ e .node_1 ∷ e .name_2 ∷ e .node_2 ∷ [] in
-      let b : Answers o plain ends w w′ = told-answer o plain ends w w′ (sym (ap says i) ∙ h .delivers .answer) (h .delivers .out) in
+      let b : Answers o plain ends w w′ = told-answer o plain ends w w′ (sym (ap (says-at (m .place)) i) ∙ h .settles .delivers .answer) (h .settles .delivers .out) in
       let d : Parted forms first-length (length w) (b .bytes) ends = match-parted forms first-length (length w) (b .bytes) ends (length s) (b .is) in
       let x : ends ≡ length (d .ks) ∷ end 1 (d .ks) ∷ end 2 (d .ks) ∷ end 3 (d .ks) ∷ end 4 (d .ks) ∷ [] = d .numbers-are in
-      let y : w′ ≡ joined (parts (d .ks)) ++ drop (length (b .bytes)) w = h .delivers .out ∙ ap (λ (z : Outcome). out-after z w) (b .is) ∙ ap (_++ drop (length (b .bytes)) w) (d .bytes-are) in
-      let z : ok-in w′ e ≡ 111 ∷ 107 ∷ bindings-text (d .ks) = shown w′ e (drop (length (b .bytes)) w) (d .ks) (parted-few forms first-length (length w) (b .bytes) ends d) (cc) (cc) (cc) (cc) (cc) y in
+      let y : w′ ≡ joined (parts (d .ks)) ++ drop (length (b .bytes)) w = h .settles .delivers .out ∙ ap (λ (z : Outcome). out-after z w) (b .is) ∙ ap (_++ drop (length (b .bytes)) w) (d .bytes-are) in
+      let z : ok-in w′ e ≡ 111 ∷ 107 ∷ bindings-text (d .ks) = shown-of w′ e (drop (length (b .bytes)) w) (d .ks) (parted-few forms first-length (length w) (b .bytes) ends d) x y in
       let f : Printed (111 ∷ 107 ∷ bindings-text (d .ks)) t u at k = rw z at p in
       let g : Printed (bound-line (d .ks)) t v at r = printing.joined (111 ∷ 107 ∷ bindings-text (d .ks)) (10 ∷ []) t u v at k r q f in
-      rw (b .is, line-with, parted-bound forms first-length (length w) (b .bytes) ends d) g
+      rw (b .is, line-of, parted-bound forms first-length (length w) (b .bytes) ends d) g
 
-  pub not-line : (t t′ : List ℕ) (at r : ℕ) → Printed no-match-line t t′ at r → a ≡ NoMatch → Printed line t t′ at r
-  unfolding says match-line line-of line-with
-  not-line t t′ at r p i =
-      let b : Answers o no-match [] w w′ = told-answer o no-match [] w w′ (sym (ap says i) ∙ h .delivers .answer) (h .delivers .out) in rw (b .is, line-with) p
+  failed : m .answer ≡ NoMatch → Answers o no-match (m .place) w w′
+  unfolding says says-at
+  failed i = told-answer o no-match (m .place) w w′ (sym (ap (says-at (m .place)) i) ∙ h .settles .delivers .answer) (h .settles .delivers .out)
 
-  pub many-line : (t t′ : List ℕ) (at r : ℕ) → Printed too-many-line t t′ at r → a ≡ TooManyNames → Printed line t t′ at r
-  unfolding says match-line line-of line-with
+  pub place-held : m .answer ≡ NoMatch → length (bytes-of (number (m .place))) ≤ path-limit
+  place-held i =
+      let b : Answers o no-match (m .place) w w′ = failed i in
+      match-placed forms first-length (length w) (b .bytes) (m .place) (length s) (b .is)
+
+  pub not-line : (t t′ : List ℕ) (at r : ℕ) → Printed (no-match-line (m .place)) t t′ at r → m .answer ≡ NoMatch → Printed line t t′ at r
+  unfolding match-line line-of
+  not-line t t′ at r p i = let b : Answers o no-match (m .place) w w′ = failed i in rw (b .is, line-of) p
+
+  pub many-line : (t t′ : List ℕ) (at r : ℕ) → Printed too-many-line t t′ at r → m .answer ≡ TooManyNames → Printed line t t′ at r
+  unfolding says says-at match-line line-of
   many-line t t′ at r p i =
-      let b : Answers o too-many-names [] w w′ = told-answer o too-many-names [] w w′ (sym (ap says i) ∙ h .delivers .answer) (h .delivers .out) in rw (b .is, line-with) p
+      let b : Answers o too-many-names [] w w′ = told-answer o too-many-names [] w w′ (sym (ap (says-at (m .place)) i) ∙ h .settles .delivers .answer) (h .settles .delivers .out) in rw (b .is, line-of) p
 
-  pub no-line : (n : Refusal) (k : ℕ) (t t′ : List ℕ) (at r : ℕ) → Printed (no-number k) t t′ at r → k ≡ number-of n → a ≡ Refused n → Printed line t t′ at r
-  unfolding says match-line line-of
-  no-line n k t t′ at r p e i = refusal-told says o s s′ w w′ a h n k t t′ at r (ap says i) e p (λ bytes ns. bound-line ks)
+  pub no-line : (n : Refusal) (k : ℕ) (t t′ : List ℕ) (at r : ℕ) → Printed (no-number k) t t′ at r → k ≡ number-of n → m .answer ≡ Refused n → Printed line t t′ at r
+  unfolding says says-at match-line line-of
+  no-line n k t t′ at r p e i =
+      let b : o ≡ refused n = told-refusal o n (sym (ap (says-at (m .place)) i) ∙ h .settles .delivers .answer) in subst (λ (x : Outcome). Printed (line-of ks x) t t′ at r) (sym b) (subst (λ (j : ℕ). Printed (no-number j) t t′ at r) e p)

@@ -9,40 +9,41 @@ use lib.Dec.{leb}
 use borrow.Author.Tests.{le-leb, leb-true}
 use Rattle.refusals.specs.declared.Refusal.{Refusal}
 use Rattle.refusals.specs.declared.Refusal.the-variants.{RoomSmall, OutputShort}
-use Rattle.meaning.specs.Limits.{room-least}
+use Rattle.meaning.specs.Limits.{room-least, path-limit}
+use Rattle.meaning.specs.Number.{number, bytes-of}
 use Rattle.meaning.specs.Meter.{Out, done, stop}
 use Rattle.meaning.specs.Form.{Reading}
 use Rattle.meaning.specs.Match as meaning
-use Rattle.meaning.specs.Outcome.{plain, no-match, too-many-names, Outcome, answered, refused, deliver, ended, in-room, out-after, zeroed, told, Delivers, Settles}
-use Rattle.meaning.proofs.Lent.{Zeros, zeros-answered, zeros-deliver, zeros-ended, ended-refused, ended-done, small-settles, zeroed-settles, told-answer}
+use Rattle.meaning.specs.Outcome.{plain, no-match, too-many-names, Outcome, answered, refused, deliver, ended, in-room, out-after, zeroed, told, Delivers}
+use Rattle.meaning.proofs.Lent.{Zeros, zeros-answered, zeros-deliver, zeros-ended, room-small, room-enough, small-settles, zeroed-settles, told-answer}
 use Rattle.store.specs.declared.Charges.{Charges}
-use Rattle.form.specs.Spans.{Stops, stops}
 use Rattle.form.specs.Writes.{Wrote}
 use Rattle.pattern.specs.declared.Bindings.{Bindings}
-use Rattle.pattern.specs.declared.Match.{Match}
-use Rattle.pattern.specs.declared.Match.the-variants.{Matched as found, NoMatch as not-found, TooManyNames as too-many-found}
-use Rattle.pattern.specs.Bound.{bindingsAt, Bound, matchAt, BoundIn}
+use Rattle.pattern.specs.Bound.{bindingsAt, Bound}
 use Rattle.matcher.specs.declared.Parts.{Parts}
 use Rattle.matcher.specs.declared.Placed.{Placed}
 use Rattle.matcher.specs.declared.Placed.the-variants.{All, Over}
 use Rattle.matcher.specs.declared.Worked.{Worked}
-use Rattle.matcher.specs.declared.Worked.the-variants.{Went, Stop}
+use Rattle.matcher.specs.declared.Said.{Said}
+use Rattle.matcher.specs.declared.Said.the-variants.{Bound as bound-to, NoMatch as not-matched, TooManyNames as too-many, Stop}
 use Rattle.matcher.specs.declared.MatchAnswer.{MatchAnswer}
+use Rattle.matcher.specs.declared.Matching.{Matching}
 use Rattle.matcher.specs.declared.MatchAnswer.the-variants.{Matched, NoMatch, TooManyNames, Refused}
-use Rattle.matcher.specs.Outcome.{worked, parts, joined, end, delivered, outcome, says, Within}
-use Rattle.matcher.specs.Steps.{Gives, gives, WentTo, WorkOk, placed}
+use Rattle.matcher.specs.Outcome.{worked, parts, joined, end, delivered, ending, outcome, says-at, says, place-of, placeless, Answers, Matches, Within}
+use Rattle.matcher.specs.Steps.{outcome-of, BoundIn, Shows, placed}
 use Rattle.matcher.proofs.Forms.{worked-late}
+use Rattle.matcher.proofs.PlaceLaws.{place-number, place-short}
 
 -- ---- deliver
 
 module _ (out : List ℕ) (ks : List meaning.Binding) (r : Placed) (e : r ≡ placed (length out) ks) where
-  pub parts-long : r ≡ Over → Delivers says (delivered (length out) (meaning.matched ks)) out out (Refused OutputShort)
-  unfolding placed delivered deliver says told out-after
-  parts-long d = go (leb (length (joined (parts ks))) (length out)) refl (sym d ∙ e)
+  pub parts-long : r ≡ Over → Answers (placeless (delivered (length out) (meaning.matched ks))) out out (Refused OutputShort)
+  unfolding placeless placed delivered deliver says-at told out-after
+  parts-long d = record { at = λ p. go p (leb (length (joined (parts ks))) (length out)) refl (sym d ∙ e) }
     where
-      go : (b : Bool) → leb (length (joined (parts ks))) (length out) ≡ b → Over ≡ elim b [ true ↦ All (record { count = length ks; name_1 = end 1 ks; node_1 = end 2 ks; name_2 = end 3 ks; node_2 = end 4 ks }) | false ↦ Over ] → Delivers says (delivered (length out) (meaning.matched ks)) out out (Refused OutputShort)
-      go true h k = let z : _≡_ {A = ℕ} 0 1 = cc in absurd (omega arith)
-      go false h k = rw (h, deliver) (record { answer = refl; out = refl })
+      go : (p : List ℕ) (b : Bool) → leb (length (joined (parts ks))) (length out) ≡ b → Over ≡ elim b [ true ↦ All (record { count = length ks; name_1 = end 1 ks; node_1 = end 2 ks; name_2 = end 3 ks; node_2 = end 4 ks }) | false ↦ Over ] → Delivers (says-at p) (delivered (length out) (meaning.matched ks)) out out (Refused OutputShort)
+      go p true h k = let z : _≡_ {A = ℕ} 0 1 = cc in absurd (omega arith)
+      go p false h k = rw (h, deliver) (record { answer = refl; out = refl })
 
   module _ (p : Parts) (d : r ≡ All p) where
     pub parts-fit : length (joined (parts ks)) ≤ length out
@@ -57,76 +58,71 @@ module _ (out : List ℕ) (ks : List meaning.Binding) (r : Placed) (e : r ≡ pl
     unfolding placed
     parts-are = sym d ∙ e ∙ rw (le-leb (length (joined (parts ks))) (length out) parts-fit, placed)
 
-    pub parts-written : (out₁ : List ℕ) (k : ℕ) → Wrote (joined (parts ks)) k out out₁ → Delivers says (delivered (length out) (meaning.matched ks)) out out₁ (Matched p)
-    unfolding delivered deliver says told out-after
+    pub parts-written : (out₁ : List ℕ) (k : ℕ) → Wrote (joined (parts ks)) k out out₁ → Answers (placeless (delivered (length out) (meaning.matched ks))) out out₁ (Matched p)
+    unfolding placeless delivered deliver says-at told out-after
     parts-written out₁ k w =
         let z : p ≡ record { count = length ks; name_1 = end 1 ks; node_1 = end 2 ks; name_2 = end 3 ks; node_2 = end 4 ks } = let y = parts-are in cc in
-        rw (le-leb (length (joined (parts ks))) (length out) parts-fit, deliver) (record { answer = rw z; out = w .bytes })
+        rw (le-leb (length (joined (parts ks))) (length out) parts-fit, deliver) (record { at = λ q. record { answer = rw z; out = w .bytes } })
 
 -- ---- answer
 
-module _ (f s : List ℕ) (c : Charges) (m : Match) where
-  pub bound-here : (ks : Bindings) → BoundIn f s c m → m ≡ found ks → Bound f s c ks
+module _ (f s : List ℕ) (n : ℕ) (r : Said) (out out₁ : List ℕ) where
+  pub bound-here : (ks : Bindings) (c : Charges) → BoundIn f s r → r ≡ bound-to ks c → Bound f s c ks
   unfolding BoundIn
-  bound-here ks h e = rw e at h
+  bound-here ks c h e = rw e at h
 
-  pub answer-matched : (n : ℕ) (out out₁ : List ℕ) (a : MatchAnswer) (ks : Bindings) → Delivers says (delivered n (meaning.matched (bindingsAt f s ks))) out out₁ a → m ≡ found ks → Delivers says (delivered n (matchAt f s m)) out out₁ a
-  unfolding matchAt
-  answer-matched n out out₁ a ks d e = rw e d
+  pub answer-bound : (ks : Bindings) (c : Charges) (a : MatchAnswer) → Answers (placeless (delivered n (meaning.matched (bindingsAt f s ks)))) out out₁ a → r ≡ bound-to ks c → Answers (outcome-of f s n r) out out₁ a
+  unfolding placeless outcome-of
+  answer-bound ks c a d e = rw e (record { at = d .at })
 
-  pub answer-not : (n : ℕ) (out : List ℕ) → m ≡ not-found → Delivers says (delivered n (matchAt f s m)) out out NoMatch
-  unfolding matchAt delivered says told out-after
-  answer-not n out e = rw e (record { answer = refl; out = refl })
+  pub answer-failed : r ≡ not-matched → Answers (outcome-of f s n r) out out NoMatch
+  unfolding outcome-of says-at told out-after
+  answer-failed e = rw e (record { at = λ p. record { answer = refl; out = refl } })
 
-  pub answer-many : (n : ℕ) (out : List ℕ) → m ≡ too-many-found → Delivers says (delivered n (matchAt f s m)) out out TooManyNames
-  unfolding matchAt delivered says told out-after
-  answer-many n out e = rw e (record { answer = refl; out = refl })
+  pub answer-many : r ≡ too-many → Answers (outcome-of f s n r) out out TooManyNames
+  unfolding outcome-of says-at told out-after
+  answer-many e = rw e (record { at = λ p. record { answer = refl; out = refl } })
+
+  pub answer-stop : (k : Refusal) → r ≡ Stop k → Answers (outcome-of f s n r) out out (Refused k)
+  unfolding outcome-of says-at told out-after
+  answer-stop k e = rw e (record { at = λ p. record { answer = refl; out = refl } })
 
 -- ---- matches
 
 zeros-delivered : (n : ℕ) (m : meaning.Match) → Zeros (delivered n m)
 unfolding delivered
 zeros-delivered n (meaning.matched ks) = zeros-deliver n (joined (parts ks)) _
-zeros-delivered n meaning.no-match = zeros-answered [] no-match []
+zeros-delivered n (meaning.no-match ds) = zeros-answered [] no-match _
 zeros-delivered n meaning.too-many-names = zeros-answered [] too-many-names []
 
 module _ (f : List ℕ) (first : ℕ) (s w : List ℕ) where
-  abbrev whole : Out Reading meaning.Match
-  whole = worked (take first f) (drop first f)
+  abbrev comes : Outcome
+  comes = ending (take first f) (drop first f) (length w)
 
-  abbrev then : meaning.Match → Reading → Outcome
-  then m x = delivered (length w) m
+  zeros : Zeros comes
+  unfolding ending
+  zeros = zeros-ended (λ m x. delivered (length w) m) (λ m x. zeros-delivered (length w) m) (worked (take first f) (drop first f)) (worked-late (take first f) (drop first f))
 
-  zeros : Zeros (ended then whole)
-  zeros = zeros-ended then (λ m x. zeros-delivered (length w) m) whole (worked-late (take first f) (drop first f))
+  pub matches-small : (p : List ℕ) → p ≡ meaning.place-bytes 0 → length s < room-least → Matches (outcome f first (length s) (length w)) s s w w (record { answer = Refused RoomSmall; place = p })
+  unfolding outcome says says-at place-of
+  matches-small p e h = record {
+    settles = small-settles says comes s w (record { answer = Refused RoomSmall; place = p }) refl h;
+    place = e ∙ sym (ap place-of (room-small (length s) comes h));
+  }
 
-  pub matches-small : length s < room-least → Settles says (outcome f first (length s) (length w)) s s w w (Refused RoomSmall)
-  unfolding outcome says
-  matches-small h = small-settles says (ended then whole) s w (Refused RoomSmall) refl h
+  module _ (h : room-least ≤ length s) (s₁ s₂ : List ℕ) (r : Worked) (a : MatchAnswer) (w₁ : List ℕ) where
+    pub matches-worked : s₂ ≡ zeroed s₁ → Answers (outcome-of f s₁ (length w) (r .said)) w w₁ a → Shows f s₁ (ending (take first f) (drop first f)) r → length s₁ ≡ length s
+        → Matches (outcome f first (length s) (length w)) s s₂ w w₁ (record { answer = a; place = r .place })
+    unfolding outcome says
+    matches-worked z d o same =
+        let e : Delivers (says-at (r .place)) comes w w₁ a = rw (o .is (length w)) (d .at (r .place)) in
+        record {
+          settles = zeroed-settles says comes s s₁ s₂ w w₁ (record { answer = a; place = r .place }) (record { answer = e .answer; out = e .out }) zeros h z same;
+          place = o .place (length w) ∙ sym (ap place-of (room-enough (length s) comes h));
+        }
 
-  module _ (h : room-least ≤ length s) (s₁ s₂ : List ℕ) (z : s₂ ≡ zeroed s₁) (same : length s₁ ≡ length s) (r : Worked) (o : WorkOk f s₁ whole r) where
-    pub matches-stop : (n : Refusal) → r ≡ Stop n → Settles says (outcome f first (length s) (length w)) s s₂ w w (Refused n)
-    unfolding outcome WorkOk says
-    matches-stop n e = zeroed-settles says _ s s₁ s₂ w w (Refused n) (go (rw e at o)) zeros h z same
-      where
-        go : Stops whole n → Delivers says (ended then whole) w w (Refused n)
-        go (stops x i) = ended-refused says then whole n x w (Refused n) i refl
-
-    module _ (m : Match) (c : Charges) (e : r ≡ Went m c) where
-      went-to : WentTo f s₁ c m whole
-      unfolding WorkOk
-      went-to = rw e at o
-
-      pub matches-went : (w₁ : List ℕ) (a : MatchAnswer) → Delivers says (delivered (length w) (matchAt f s₁ m)) w w₁ a → Settles says (outcome f first (length s) (length w)) s s₂ w w₁ a
-      unfolding outcome
-      matches-went w₁ a d = zeroed-settles says _ s s₁ s₂ w w₁ a (go (went-to .is)) zeros h z same
-        where
-          go : Gives whole (matchAt f s₁ m) → Delivers says (ended then whole) w w₁ a
-          go (gives x i) = ended-done says then whole (matchAt f s₁ m) x w w₁ a i d
-
-pub matches-bound : (f s₁ : List ℕ) (r : Worked) (m : Match) (c : Charges) (o : Out Reading meaning.Match) → WorkOk f s₁ o r → r ≡ Went m c → BoundIn f s₁ c m
-unfolding WorkOk
-matches-bound f s₁ r m c o h e = let w : WentTo f s₁ c m o = rw e at h in w .bound
+pub matches-bound : (f s₁ : List ℕ) (comes : ℕ → Outcome) (r : Worked) → Shows f s₁ comes r → BoundIn f s₁ (r .said)
+matches-bound f s₁ comes r h = h .bound
 
 -- ---- the ends stand in order in the output
 
@@ -165,21 +161,48 @@ module _ (f : List ℕ) (first limit : ℕ) (bytes ns : List ℕ) where
           let z : length (joined (parts ks)) ≤ limit = leb-true (length (joined (parts ks))) limit i in
           record { ks = ks; after = x; is = e; bytes-are = y; numbers-are = cc; fits = rw y z }
       go false i k = let z : _≡_ {A = ℕ} 0 1 = cc in absurd (omega arith)
-  parted (done meaning.no-match x) e h = let z : _≡_ {A = ℕ} 0 1 = cc in absurd (omega arith)
+  parted (done (meaning.no-match ds) x) e h = let z : _≡_ {A = ℕ} 0 1 = cc in absurd (omega arith)
   parted (done meaning.too-many-names x) e h = let z : _≡_ {A = ℕ} 0 1 = cc in absurd (omega arith)
   parted (stop n x) e h = let z : _≡_ {A = ℕ} 0 1 = cc in absurd (omega arith)
 
   pub match-parted : (n : ℕ) → outcome f first n limit ≡ answered bytes plain ns → Parted f first limit bytes ns
-  unfolding outcome in-room
+  unfolding outcome ending in-room
   match-parted n h = go (leb room-least n) h
     where
       go : (b : Bool) → elim b [ true ↦ ended (λ m s. delivered limit m) (worked (take first f) (drop first f)) | false ↦ refused RoomSmall ] ≡ answered bytes plain ns → Parted f first limit bytes ns
       go true k = parted (worked (take first f) (drop first f)) refl k
       go false k = let z : _≡_ {A = ℕ} 0 1 = cc in absurd (omega arith)
 
-pub ends-within : (f : List ℕ) (first n : ℕ) (s s′ w w′ : List ℕ) (a : MatchAnswer) (e : Parts) → Settles says (outcome f first n (length w)) s s′ w w′ a → a ≡ Matched e → Within e (length w′)
-unfolding says end
-ends-within f first n s s′ w w′ a e h d =
+-- a failure's numbers are the bytes of its place
+module _ (f : List ℕ) (first limit : ℕ) (bytes ns : List ℕ) where
+  abbrev Short : Type 0
+  Short = length (bytes-of (number ns)) ≤ path-limit
+
+  placed-short : (o : Out Reading meaning.Match) → ended (λ m s. delivered limit m) o ≡ answered bytes no-match ns → Short
+  unfolding ended delivered deliver
+  placed-short (done (meaning.matched ks) x) h = go (leb (length (joined (parts ks))) limit) h
+    where
+      go : (b : Bool) → elim b [ true ↦ answered (joined (parts ks)) plain (length ks ∷ end 1 ks ∷ end 2 ks ∷ end 3 ks ∷ end 4 ks ∷ []) | false ↦ refused OutputShort ] ≡ answered bytes no-match ns → Short
+      go true k = let z : _≡_ {A = ℕ} 0 1 = cc in absurd (omega arith)
+      go false k = let z : _≡_ {A = ℕ} 0 1 = cc in absurd (omega arith)
+  placed-short (done (meaning.no-match ds) x) h =
+      let e : ns ≡ meaning.place-bytes (meaning.place (meaning.no-match ds)) = cc in
+      rw (e, place-number (meaning.place (meaning.no-match ds))) (place-short (meaning.no-match ds))
+  placed-short (done meaning.too-many-names x) h = let z : _≡_ {A = ℕ} 0 1 = cc in absurd (omega arith)
+  placed-short (stop n x) h = let z : _≡_ {A = ℕ} 0 1 = cc in absurd (omega arith)
+
+  pub match-placed : (n : ℕ) → outcome f first n limit ≡ answered bytes no-match ns → length (bytes-of (number ns)) ≤ path-limit
+  unfolding outcome ending in-room
+  match-placed n h = go (leb room-least n) h
+    where
+      go : (b : Bool) → elim b [ true ↦ ended (λ m s. delivered limit m) (worked (take first f) (drop first f)) | false ↦ refused RoomSmall ] ≡ answered bytes no-match ns → Short
+      go true k = placed-short (worked (take first f) (drop first f)) k
+      go false k = let z : _≡_ {A = ℕ} 0 1 = cc in absurd (omega arith)
+
+pub ends-within : (f : List ℕ) (first n : ℕ) (s s′ w w′ : List ℕ) (m : Matching) (e : Parts) → Matches (outcome f first n (length w)) s s′ w w′ m → m .answer ≡ Matched e → Within e (length w′)
+unfolding says says-at end
+ends-within f first n s s′ w w′ m e k d =
+    let h = k .settles in
     let t = told-answer (outcome f first n (length w)) plain (e .count ∷ e .name_1 ∷ e .node_1 ∷ e .name_2 ∷ e .node_2 ∷ []) w w′ (rw d at (h .delivers .answer)) (h .delivers .out) in
     let p = match-parted f first (length w) (t .bytes) (e .count ∷ e .name_1 ∷ e .node_1 ∷ e .name_2 ∷ e .node_2 ∷ []) n (t .is) in
     let ps : List (List ℕ) = parts (p .ks) in

@@ -1,37 +1,42 @@
 -- What the steps promise: the two forms' match in the store, and where the parts end.
 use Prim.Native.Nat.{ℕ, _+_}
 use mathlib.Core.Path.{_≡_}
-use mathlib.Core.List.{List}
+use mathlib.Core.List.{List, []}
 use mathlib.Core.Bool.{true, false}
 use lib.Dec.{leb}
 use lib.ListN.{length}
-use Rattle.meaning.specs.Meter.{Out, done}
-use Rattle.meaning.specs.Form.{Reading}
 use Rattle.meaning.specs.Match as meaning
-use Rattle.store.specs.declared.Charges.{Charges}
-use Rattle.pattern.specs.declared.Match.{Match}
-use Rattle.pattern.specs.Bound.{matchAt, BoundIn}
-use Rattle.form.specs.Spans.{Stops}
+use Rattle.meaning.specs.Outcome.{Outcome, no-match, too-many-names, answered, refused}
+use Rattle.pattern.specs.Bound.{bindingsAt, Bound}
 use Rattle.matcher.specs.declared.Worked.{Worked}
-use Rattle.matcher.specs.declared.Worked.the-variants.{Went, Stop}
+use Rattle.matcher.specs.declared.Said.{Said}
+use Rattle.matcher.specs.declared.Said.the-variants.{Bound as bound-to, NoMatch, TooManyNames, Stop}
 use Rattle.matcher.specs.declared.Ends.{Ends}
 use Rattle.matcher.specs.declared.Ends.the-variants.{At, Over as ends-over}
 use Rattle.matcher.specs.declared.Placed.{Placed}
 use Rattle.matcher.specs.declared.Placed.the-variants.{All, Over}
-use Rattle.matcher.specs.Outcome.{parts, joined, end}
+use Rattle.matcher.specs.Outcome.{parts, joined, end, delivered, place-of}
 
--- the work o gives m (data, not a record: `search` builds records, and has no way to choose the state)
-pub data Gives (o : Out Reading meaning.Match) (m : meaning.Match) : Type 0 where
-  gives : (s : Reading) → o ≡ done m s → Gives o m
+-- what comes of work, as the store shows it, with a place beside it
+unfoldable pub outcome-of : List ℕ → List ℕ → ℕ → Said → List ℕ → Outcome
+unfolding bindingsAt delivered
+outcome-of f s out-length (bound-to ks c) place = delivered out-length (meaning.matched (bindingsAt f s ks))
+outcome-of f s out-length NoMatch place = answered [] no-match place
+outcome-of f s out-length TooManyNames place = answered [] too-many-names []
+outcome-of f s out-length (Stop n) place = refused n
 
-pub record WentTo (f s : List ℕ) (c : Charges) (m : Match) (o : Out Reading meaning.Match) : Type 0 where
-  pub is : Gives o (matchAt f s m)
-  pub bound : BoundIn f s c m
+-- what it bound are nodes
+unfoldable pub BoundIn : List ℕ → List ℕ → Said → Type 0
+BoundIn f s (bound-to ks c) = Bound f s c ks
+BoundIn f s NoMatch = Unit {0}
+BoundIn f s TooManyNames = Unit {0}
+BoundIn f s (Stop n) = Unit {0}
 
--- the work o, as the store shows it
-unfoldable pub WorkOk : List ℕ → List ℕ → Out Reading meaning.Match → Worked → Type 0
-WorkOk f s o (Went m c) = WentTo f s c m o
-WorkOk f s o (Stop n) = Stops o n
+-- work from which this outcome and its place come, for any length of output
+pub record Shows (f s : List ℕ) (comes : ℕ → Outcome) (w : Worked) : Type 0 where
+  pub is : (n : ℕ) → comes n ≡ outcome-of f s n (w .said) (w .place)
+  pub place : (n : ℕ) → w .place ≡ place-of (comes n)
+  pub bound : BoundIn f s (w .said)
 
 -- where a and then b bytes end that stand from at on, where a limit allows them
 unfoldable pub ends : ℕ → ℕ → ℕ → ℕ → Ends

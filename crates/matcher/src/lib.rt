@@ -1,4 +1,6 @@
 // The matcher on bytes alone: the pattern's form and the expression's stand one after the other in one lent slice.
+mod way;
+
 use form::Extent;
 use form::Two;
 use pattern::Bindings;
@@ -7,18 +9,18 @@ use refusals::Refusal;
 use store::Charges;
 use store::ROOM;
 ghost use mathlib.Core.Path.{_≡_};
-ghost use mathlib.Core.List.{_++_};
+ghost use mathlib.Core.List.{[], _++_};
 ghost use Prim.Native.Nat.{_+_, _≤_};
 ghost use lib.ListN.{length, take, drop};
 ghost use Rattle.meaning.specs.Limits.{room-least};
 ghost use Rattle.meaning.specs.Form.{write};
-ghost use Rattle.meaning.specs.Outcome.{Delivers, Settles};
 ghost use Rattle.meaning.specs.Match as meaning;
 ghost use Rattle.store.specs.Nodes.{treeAt, tree-in};
+ghost use Rattle.store.specs.Store.{Ready};
 ghost use Rattle.form.specs.Writes.{Writable, Wrote, extent};
-ghost use Rattle.pattern.specs.Bound.{bindingsAt, Bound, matchAt, BoundIn};
-ghost use Rattle.matcher.specs.Outcome.{worked, parts, joined, delivered, outcome, says};
-ghost use Rattle.matcher.specs.Steps.{WorkOk, ends, placed};
+ghost use Rattle.pattern.specs.Bound.{bindingsAt, Bound};
+ghost use Rattle.matcher.specs.Outcome.{parts, joined, delivered, delivering, ending, outcome, placeless, Answers, Matches};
+ghost use Rattle.matcher.specs.Steps.{outcome-of, BoundIn, Shows, ends, placed};
 
 // How many names were bound, and where each part that was written ends; a part that is not there has no bytes.
 pub struct Parts {
@@ -36,10 +38,25 @@ pub enum MatchAnswer {
     Refused(Refusal),
 }
 
+// The answer; and the place at which the expression first disagrees with the pattern, a path in 64 bytes, big-endian: zero where it
+// is deeper, and beside every other answer.
+pub struct Matching {
+    pub answer: MatchAnswer,
+    pub place: [u8; 64],
+}
+
 // What the two forms answer.
-pub(crate) enum Worked {
-    Went(Match, Charges),
+pub(crate) enum Said {
+    Bound(Bindings, Charges),
+    NoMatch,
+    TooManyNames,
     Stop(Refusal),
+}
+
+// And the place of a failure.
+pub(crate) struct Worked {
+    pub(crate) said: Said,
+    pub(crate) place: [u8; 64],
 }
 
 // Where two trees end that are written one after the other, where a limit allows them.
@@ -56,17 +73,39 @@ pub(crate) enum Placed {
 
 // ---- the two forms
 
+// What has no place.
+fn unplaced(said: Said) -> Worked
+    ensures { λ w. ⌜ w ≡ record { said = said; place = meaning.place-bytes 0 } ⌝ }
+{
+    Worked {
+        said: said,
+        place: [0u8; 64],
+    }
+}
+
+// The match of two nodes, and the place of its failure.
+fn matched(forms: &[u8], room: &mut [u8], ch: Charges, p: usize, s: usize) -> Worked
+    requires { ⌜ Ready (now forms) (now room) ch p × Ready (now forms) (now room) ch s ⌝ }
+    ensures { λ w. ⌜ Shows (now (forms .entry)) (now (room .exit)) (delivering (meaning.match-sexp (tree-in forms room p) (tree-in forms room s) [])) w ⌝ }
+{
+    match pattern::matched_node(forms, room, ch, p, s) {
+        Match::Matched(ks) => unplaced(Said::Bound(ks, ch)),
+        Match::NoMatch => Worked {
+            said: Said::NoMatch,
+            place: way::place_node(forms, room, ch, p, s),
+        },
+        Match::TooManyNames => unplaced(Said::TooManyNames),
+    }
+}
+
 // Reads the pattern, the first bytes, and then the expression, what follows them; and matches.
 fn work(forms: &[u8], room: &mut [u8], first: usize) -> Worked
     requires { ⌜ room-least ≤ length (now room) ⌝ }
-    ensures { λ w. ⌜ WorkOk (now (forms .entry)) (now (room .exit)) (worked (take first (now (forms .entry))) (drop first (now (forms .entry)))) w ⌝ }
+    ensures { λ w. ⌜ Shows (now (forms .entry)) (now (room .exit)) (ending (take first (now (forms .entry))) (drop first (now (forms .entry)))) w ⌝ }
 {
     match form::read_two(forms, room, first) {
-        Two::Refused(e) => Worked::Stop(e),
-        Two::Nodes(p, s, c) => {
-            let m = pattern::matched_node(forms, room, c, p, s);
-            Worked::Went(m, c)
-        }
+        Two::Refused(e) => unplaced(Said::Stop(e)),
+        Two::Nodes(p, s, c) => matched(forms, room, c, p, s),
     }
 }
 
@@ -189,7 +228,7 @@ fn deliver<'a>(
     out: &mut [u8],
 ) -> MatchAnswer
     requires { ⌜ Bound (now forms) (now room) ch ks ⌝ }
-    ensures { λ r. ⌜ Delivers says (delivered (length (now (out .entry))) (meaning.matched (bindingsAt (now (forms .entry)) (now (room .entry)) ks))) (now (out .entry)) (now (out .exit)) r ⌝ }
+    ensures { λ r. ⌜ Answers (placeless (delivered (length (now (out .entry))) (meaning.matched (bindingsAt (now (forms .entry)) (now (room .entry)) ks)))) (now (out .entry)) (now (out .exit)) r ⌝ }
 {
     match place(forms, room, ch, ks, out.len()) {
         Placed::Over => MatchAnswer::Refused(Refusal::OutputShort),
@@ -202,34 +241,36 @@ fn deliver<'a>(
 
 // ---- the whole
 
-fn answer<'a>(forms: &'a [u8], room: &'a [u8], ch: Charges, m: Match, out: &mut [u8]) -> MatchAnswer
-    requires { ⌜ BoundIn (now forms) (now room) ch m ⌝ }
-    ensures { λ r. ⌜ Delivers says (delivered (length (now (out .entry))) (matchAt (now (forms .entry)) (now (room .entry)) m)) (now (out .entry)) (now (out .exit)) r ⌝ }
+fn answer<'a>(forms: &'a [u8], room: &'a [u8], said: Said, out: &mut [u8]) -> MatchAnswer
+    requires { ⌜ BoundIn (now forms) (now room) said ⌝ }
+    ensures { λ r. ⌜ Answers (outcome-of (now (forms .entry)) (now (room .entry)) (length (now (out .entry))) said) (now (out .entry)) (now (out .exit)) r ⌝ }
 {
-    match m {
-        Match::Matched(ks) => deliver(forms, room, ch, ks, out),
-        Match::NoMatch => MatchAnswer::NoMatch,
-        Match::TooManyNames => MatchAnswer::TooManyNames,
+    match said {
+        Said::Bound(ks, c) => deliver(forms, room, c, ks, out),
+        Said::NoMatch => MatchAnswer::NoMatch,
+        Said::TooManyNames => MatchAnswer::TooManyNames,
+        Said::Stop(e) => MatchAnswer::Refused(e),
     }
 }
 
 // Matches the expression against the pattern, forms[..first]. A match writes, for each name in the order in which the names were
 // bound, the name's atom and the tree. The room is all zero after, but for refusal 1.
-pub fn matches(forms: &[u8], first: usize, room: &mut [u8], out: &mut [u8]) -> MatchAnswer
-    ensures { λ r. ⌜ Settles says (outcome (now (forms .entry)) first (length (now (room .entry))) (length (now (out .entry)))) (now (room .entry)) (now (room .exit)) (now (out .entry)) (now (out .exit)) r ⌝ }
+pub fn matches(forms: &[u8], first: usize, room: &mut [u8], out: &mut [u8]) -> Matching
+    ensures { λ m. ⌜ Matches (outcome (now (forms .entry)) first (length (now (room .entry))) (length (now (out .entry)))) (now (room .entry)) (now (room .exit)) (now (out .entry)) (now (out .exit)) m ⌝ }
 {
     if room.len() < ROOM {
-        return MatchAnswer::Refused(Refusal::RoomSmall);
+        return Matching {
+            answer: MatchAnswer::Refused(Refusal::RoomSmall),
+            place: [0u8; 64],
+        };
     }
-    match work(forms, room, first) {
-        Worked::Stop(e) => {
-            store::zero_room(room);
-            MatchAnswer::Refused(e)
-        }
-        Worked::Went(m, c) => {
-            let a = answer(forms, room, c, m, out);
-            store::zero_room(room);
-            a
-        }
+    let w = work(forms, room, first);
+    let said = w.said;
+    let a = answer(forms, room, said, out);
+    store::zero_room(room);
+    let place = w.place;
+    Matching {
+        answer: a,
+        place: place,
     }
 }

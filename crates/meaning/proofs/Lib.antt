@@ -69,3 +69,5 @@ pub mod Proper
 pub mod OperandsOutcomes
 pub mod Sizes
 pub mod RuleDiffers
+pub mod Verdict
+pub mod Places

@@ -5,15 +5,15 @@ use mathlib.Core.List.{List, [], _∷_}
 use mathlib.Core.Bool.{Bool, true, false}
 use mathlib.Core.Option.{none}
 use Rattle.meaning.specs.Tree.{Tree, atom, pair, byte, same-bytes}
-use Rattle.meaning.specs.Match.{Match, Binding, matched, no-match, too-many-names, match-sexp, get, unify-bindings, _and-then_, atom-match, sexp-match}
+use Rattle.meaning.specs.Match.{Match, Binding, matched, no-match, too-many-names, match-sexp, get, unify-bindings, _and-then_, in-part, atom-match, sexp-match}
 use Rattle.meaning.proofs.TreeLaws.{same-bytes-sound}
 
 IsMatched : Match → Type 0
 IsMatched (matched ks) = Unit {0}
-IsMatched no-match = ⊥
+IsMatched (no-match ds) = ⊥
 IsMatched too-many-names = ⊥
 
-not-no-match : {X : Type 0} {ks : List Binding} → no-match ≡ matched ks → X
+not-no-match : {X : Type 0} {ds : List Bool} {ks : List Binding} → no-match ds ≡ matched ks → X
 unfolding IsMatched
 not-no-match h = absurd (subst IsMatched (sym h) tt)
 
@@ -27,10 +27,16 @@ pub match-atom : (p : List ℕ) (s : Tree) (ks js : List Binding) → match-sexp
 unfolding match-sexp
 match-atom p (atom s) ks js h = go (same-bytes p s) refl h
   where
-    go : (b : Bool) → same-bytes p s ≡ b → elim b [ true ↦ matched ks | false ↦ no-match ] ≡ matched js → (atom s ≡ atom p) × (ks ≡ js)
+    go : (b : Bool) → same-bytes p s ≡ b → elim b [ true ↦ matched ks | false ↦ no-match [] ] ≡ matched js → (atom s ≡ atom p) × (ks ≡ js)
     go true e k = (ap atom (sym (same-bytes-sound p s e)), cc)
     go false e k = not-no-match k
 match-atom p (pair l r) ks js h = not-no-match h
+
+part-matched : (d : Bool) (m : Match) (js : List Binding) → in-part d m ≡ matched js → m ≡ matched js
+unfolding in-part
+part-matched d (matched ks) js h = h
+part-matched d (no-match ds) js h = not-no-match h
+part-matched d too-many-names js h = h
 
 -- the left part matched, and then the right
 pub record Split (p q s : Tree) (ks js : List Binding) : Type 0 where
@@ -41,13 +47,13 @@ pub record Split (p q s : Tree) (ks js : List Binding) : Type 0 where
   pub on-left : match-sexp p left ks ≡ matched between
   pub on-right : match-sexp q right between ≡ matched js
 
-split : (p q l r : Tree) (ks js : List Binding) → (match-sexp p l ks and-then λ is. match-sexp q r is) ≡ matched js → Split p q (pair l r) ks js
-unfolding _and-then_
+split : (p q l r : Tree) (ks js : List Binding) → (in-part false (match-sexp p l ks) and-then λ is. in-part true (match-sexp q r is)) ≡ matched js → Split p q (pair l r) ks js
+unfolding _and-then_ in-part
 split p q l r ks js h = go (match-sexp p l ks) refl h
   where
-    go : (m : Match) → match-sexp p l ks ≡ m → (m and-then λ is. match-sexp q r is) ≡ matched js → Split p q (pair l r) ks js
-    go (matched is) e k = record { left = l; right = r; between = is; is = refl; on-left = e; on-right = k }
-    go no-match e k = not-no-match k
+    go : (m : Match) → match-sexp p l ks ≡ m → (in-part false m and-then λ is. in-part true (match-sexp q r is)) ≡ matched js → Split p q (pair l r) ks js
+    go (matched is) e k = record { left = l; right = r; between = is; is = refl; on-left = e; on-right = part-matched true (match-sexp q r is) js k }
+    go (no-match ds) e k = not-no-match k
     go too-many-names e k = not-too-many k
 
 -- a pattern that is a pair, and is not two atoms

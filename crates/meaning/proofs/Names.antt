@@ -7,7 +7,7 @@ use mathlib.Core.Bool.{Bool, true, false, _&&_, not}
 use mathlib.Core.Option.{Option, none, some}
 use lib.ListN.{length}
 use Rattle.meaning.specs.Tree.{Tree, atom, pair, same-bytes, equal-to, is-byte}
-use Rattle.meaning.specs.Match.{Match, Binding, matched, no-match, too-many-names, atom-match, sexp-match, get, insert, unify-bindings, at-atom, _and-then_, match-sexp}
+use Rattle.meaning.specs.Match.{Match, Binding, matched, no-match, too-many-names, atom-match, sexp-match, get, insert, unify-bindings, at-atom, _and-then_, in-part, match-sexp}
 use Rattle.meaning.specs.Substitute.{cons-pattern}
 use Rattle.meaning.specs.Rules.{cons-optimizer-pattern, apply-pattern, atom-pattern, quote-pattern-1, apply-null-pattern-1}
 
@@ -21,21 +21,27 @@ names (pair (pair c d) q) = names (pair c d) + names q
 -- not too many, and at most n bindings
 Few : ℕ → Match → Type 0
 Few n (matched ks) = length ks ≤ n
-Few n no-match = Unit {0}
+Few n (no-match ds) = Unit {0}
 Few n too-many-names = ⊥
 
 few-if : (n : ℕ) (b : Bool) (m k : Match) → Few n m → Few n k → Few n (elim b [ true ↦ m | false ↦ k ])
 few-if n true m k f g = f
 few-if n false m k f g = g
 
+few-part : (n : ℕ) (d : Bool) (m : Match) → Few n m → Few n (in-part d m)
+unfolding Few in-part
+few-part n d (matched ks) h = h
+few-part n d (no-match ds) h = tt
+few-part n d too-many-names h = h
+
 few-both : (n k : ℕ) (p l q r : Tree) (ks : List Binding) → Few n (match-sexp p l ks) → ((js : List Binding) → length js ≤ n → Few k (match-sexp q r js))
-    → Few k (match-sexp p l ks and-then λ js. match-sexp q r js)
-unfolding Few _and-then_
+    → Few k (in-part false (match-sexp p l ks) and-then λ js. in-part true (match-sexp q r js))
+unfolding Few _and-then_ in-part
 few-both n k p l q r ks f g = go (match-sexp p l ks) f
   where
-    go : (m : Match) → Few n m → Few k (m and-then λ js. match-sexp q r js)
-    go (matched js) h = g js h
-    go no-match h = tt
+    go : (m : Match) → Few n m → Few k (in-part false m and-then λ js. in-part true (match-sexp q r js))
+    go (matched js) h = few-part k true (match-sexp q r js) (g js h)
+    go (no-match ds) h = tt
     go too-many-names h = absurd h
 
 few-insert : (n : ℕ) (b : Binding) (ks : List Binding) → length ks + 1 ≤ n → n ≤ 2 → Few n (insert b ks)
@@ -49,21 +55,21 @@ unfolding Few unify-bindings
 few-unify n ks x t h i = go (get x ks)
   where
     go : (o : Option Tree) → Few n (elim o [
-      | some u ↦ elim (equal-to u t) [ true ↦ matched ks | false ↦ no-match ]
+      | some u ↦ elim (equal-to u t) [ true ↦ matched ks | false ↦ no-match [] ]
       | none ↦ insert (record { name = x; node = t }) ks
     ])
     go none = few-insert n _ ks h i
-    go (some u) = few-if n (equal-to u t) (matched ks) no-match (omega arith) tt
+    go (some u) = few-if n (equal-to u t) (matched ks) (no-match []) (omega arith) tt
 
 -- the number of bindings grows by the pattern's names at most
 few-match : (n : ℕ) (p s : Tree) (ks : List Binding) → length ks + names p ≤ n → n ≤ 2 → Few n (match-sexp p s ks)
 unfolding names Few match-sexp at-atom
-few-match n (atom p) (atom s) ks h i = few-if n (same-bytes p s) (matched ks) no-match (omega arith) tt
+few-match n (atom p) (atom s) ks h i = few-if n (same-bytes p s) (matched ks) (no-match []) (omega arith) tt
 few-match n (atom p) (pair l r) ks h i = tt
 few-match n (pair (atom a) (atom b)) (atom s) ks h i =
     few-if n (is-byte atom-match a) _ _
-    (few-if n (is-byte atom-match b) _ _ (few-if n (is-byte atom-match s) (matched []) no-match (omega arith) tt) (few-unify n ks b (atom s) h i))
-    (few-if n (is-byte sexp-match a) _ no-match
+    (few-if n (is-byte atom-match b) _ _ (few-if n (is-byte atom-match s) (matched []) (no-match []) (omega arith) tt) (few-unify n ks b (atom s) h i))
+    (few-if n (is-byte sexp-match a) _ (no-match [])
     (few-if n (is-byte sexp-match b && is-byte sexp-match s) (matched []) _ (omega arith) (few-unify n ks b (atom s) h i)) tt)
 few-match n (pair (atom a) (atom b)) (pair l r) ks h i =
     few-if n (is-byte sexp-match a && not (is-byte sexp-match b)) _ _

@@ -4,7 +4,7 @@ use mathlib.Core.List.{List, [], _∷_}
 use mathlib.Core.Bool.{Bool, true, false, _&&_, not}
 use mathlib.Core.Option.{Option, none, some}
 use Rattle.meaning.specs.Tree.{Tree, atom, pair, enlist, same-bytes, equal-to, is-byte}
-use Rattle.meaning.specs.Match.{Binding, Match, matched, no-match, too-many-names, atom-match, sexp-match, get, insert, unify-bindings, at-atom, _and-then_, match-sexp, got}
+use Rattle.meaning.specs.Match.{Binding, Match, matched, no-match, too-many-names, atom-match, sexp-match, get, insert, unify-bindings, at-atom, _and-then_, in-part, match-sexp, got}
 use Rattle.meaning.specs.Substitute.{sub-turns, first-name, rest-name, cons-pattern, or-else, cons-f, cons-r, path-from-args, is-proper, sub-args, sub-each}
 use Rattle.meaning.specs.Form.{Narrow}
 use Rattle.meaning.proofs.Atoms.{narrow-nil, narrow-byte}
@@ -17,7 +17,7 @@ NodeNarrow k = Narrow (k .node)
 
 IfMatched : Match → Type 0
 IfMatched (matched ks) = Every NodeNarrow ks
-IfMatched no-match = Unit {0}
+IfMatched (no-match ds) = Unit {0}
 IfMatched too-many-names = Unit {0}
 
 get-narrow : (n : List ℕ) (ks : List Binding) → Every NodeNarrow ks → IfSome Narrow (get n ks)
@@ -36,7 +36,7 @@ unfolding unify-bindings IfMatched
 unify-narrow ks n t h hs = go (get n ks)
   where
     go : (o : Option Tree) → IfMatched (elim o [
-      | some u ↦ elim (equal-to u t) [ true ↦ matched ks | false ↦ no-match ]
+      | some u ↦ elim (equal-to u t) [ true ↦ matched ks | false ↦ no-match [] ]
       | none ↦ insert (record { name = n; node = t }) ks
     ])
     go (some u) = either-way IfMatched (equal-to u t) _ _ hs tt
@@ -50,10 +50,16 @@ at-atom-narrow a b s ks h hs =
     (either-way IfMatched (is-byte sexp-match a) _ _
     (either-way IfMatched (is-byte sexp-match b && is-byte sexp-match s) _ _ tt (unify-narrow ks b (atom s) h hs)) tt)
 
-and-then-narrow : (m : Match) (f : List Binding → Match) → IfMatched m → ((ks : List Binding) → Every NodeNarrow ks → IfMatched (f ks)) → IfMatched (m and-then f)
-unfolding _and-then_ IfMatched
-and-then-narrow (matched ks) f h k = k ks h
-and-then-narrow no-match f h k = tt
+part-narrow : (d : Bool) (m : Match) → IfMatched m → IfMatched (in-part d m)
+unfolding in-part IfMatched
+part-narrow d (matched ks) h = h
+part-narrow d (no-match ds) h = tt
+part-narrow d too-many-names h = tt
+
+and-then-narrow : (m : Match) (f : List Binding → Match) → IfMatched m → ((ks : List Binding) → Every NodeNarrow ks → IfMatched (f ks)) → IfMatched (in-part false m and-then λ ks. in-part true (f ks))
+unfolding _and-then_ in-part IfMatched
+and-then-narrow (matched ks) f h k = part-narrow true (f ks) (k ks h)
+and-then-narrow (no-match ds) f h k = tt
 and-then-narrow too-many-names f h k = tt
 
 match-narrow : (p s : Tree) (ks : List Binding) → Narrow s → Every NodeNarrow ks → IfMatched (match-sexp p s ks)
@@ -64,13 +70,13 @@ match-narrow (pair (atom a) (atom b)) (atom s) ks h hs = at-atom-narrow a b s ks
 match-narrow (pair (atom a) (atom b)) (pair l r) ks h hs =
     either-way IfMatched (is-byte sexp-match a && not (is-byte sexp-match b)) _ _
     (unify-narrow ks b (pair l r) h hs)
-    (and-then-narrow (match-sexp (atom a) l ks) _ (match-narrow (atom a) l ks (h .0) hs) (λ js hj. match-narrow (atom b) r js (h .1) hj))
+    (and-then-narrow (match-sexp (atom a) l ks) (λ js. match-sexp (atom b) r js) (match-narrow (atom a) l ks (h .0) hs) (λ js hj. match-narrow (atom b) r js (h .1) hj))
 match-narrow (pair (atom a) (pair c d)) (atom s) ks h hs = tt
 match-narrow (pair (atom a) (pair c d)) (pair l r) ks h hs =
-    and-then-narrow (match-sexp (atom a) l ks) _ (match-narrow (atom a) l ks (h .0) hs) (λ js hj. match-narrow (pair c d) r js (h .1) hj)
+    and-then-narrow (match-sexp (atom a) l ks) (λ js. match-sexp (pair c d) r js) (match-narrow (atom a) l ks (h .0) hs) (λ js hj. match-narrow (pair c d) r js (h .1) hj)
 match-narrow (pair (pair c d) q) (atom s) ks h hs = tt
 match-narrow (pair (pair c d) q) (pair l r) ks h hs =
-    and-then-narrow (match-sexp (pair c d) l ks) _ (match-narrow (pair c d) l ks (h .0) hs) (λ js hj. match-narrow q r js (h .1) hj)
+    and-then-narrow (match-sexp (pair c d) l ks) (λ js. match-sexp q r js) (match-narrow (pair c d) l ks (h .0) hs) (λ js hj. match-narrow q r js (h .1) hj)
 
 -- whatever a name of a pattern is bound to
 pub got-narrow : (n : List ℕ) (p r : Tree) → Narrow r → IfSome Narrow (got n (match-sexp p r []))
@@ -79,7 +85,7 @@ got-narrow n p r h = go (match-sexp p r []) (match-narrow p r [] h tt)
   where
     go : (m : Match) → IfMatched m → IfSome Narrow (got n m)
     go (matched ks) k = get-narrow n ks k
-    go no-match k = tt
+    go (no-match ds) k = tt
     go too-many-names k = tt
 
 pub or-else-narrow : (o : Option Tree) (t : Tree) → IfSome Narrow o → Narrow t → Narrow (or-else o t)

@@ -144,11 +144,11 @@ path-narrow r h = go (match-sexp (atom-pattern 5) r [])
   where
     go : (m : Match) → Yields {S = Spent} Narrow (elim m as (λ x. W Tree) [
       | matched ks ↦ longer r (got atom-name (matched ks)) 2
-      | no-match ↦ longer r (got atom-name (match-sexp (atom-pattern 6) r [])) 3
+      | no-match ds ↦ longer r (got atom-name (match-sexp (atom-pattern 6) r [])) 3
       | too-many-names ↦ longer r (got atom-name (match-sexp (atom-pattern 6) r [])) 3
     ])
     go (matched ks) = longer-narrow r (got atom-name (matched ks)) 2 h
-    go no-match = longer-narrow r (got atom-name (match-sexp (atom-pattern 6) r [])) 3 h
+    go (no-match ds) = longer-narrow r (got atom-name (match-sexp (atom-pattern 6) r [])) 3 h
     go too-many-names = longer-narrow r (got atom-name (match-sexp (atom-pattern 6) r [])) 3 h
 
 -- ---- 7., 8.
@@ -156,7 +156,7 @@ path-narrow r h = go (match-sexp (atom-pattern 5) r [])
 nil-if-narrow : (m : Match) (r : Tree) → Narrow r → Narrow (nil-if m r)
 unfolding nil-if
 nil-if-narrow (matched ks) r h = narrow-nil
-nil-if-narrow no-match r h = h
+nil-if-narrow (no-match ds) r h = h
 nil-if-narrow too-many-names r h = h
 
 pub quote-null-narrow : (r : Tree) → Narrow r → Narrow (quote-null-optimizer r)

@@ -88,9 +88,9 @@ path-good r = go (match-sexp (atom-pattern 5) r []) refl
   where
     go : (m : Match) → match-sexp (atom-pattern 5) r [] ≡ m → Quiet (elim m as (λ x. W Tree) [
       | matched ks ↦ longer r (got atom-name (matched ks)) 2
-      | no-match ↦ longer r (got atom-name (match-sexp (atom-pattern 6) r [])) 3
+      | no-match ds ↦ longer r (got atom-name (match-sexp (atom-pattern 6) r [])) 3
       | too-many-names ↦ longer r (got atom-name (match-sexp (atom-pattern 6) r [])) 3
     ]) (λ u. Keeps r u)
     go (matched ks) e = subst (λ m. Quiet (longer r (got atom-name m) 2) (λ u. Keeps r u)) e (part-good false r)
-    go no-match e = part-good true r
+    go (no-match ds) e = part-good true r
     go too-many-names e = part-good true r

@@ -44,13 +44,13 @@ turns-odd m h = turns-step (2 * m + 1) (omega arith) ∙ rw (e, d)
     d : (2 * m + 1) / 2 ≡ m
     d = omega arith
 
-onto-pos : (ds : List Bool) (q : ℕ) → 1 ≤ q → 1 ≤ onto ds q
+pub onto-pos : (ds : List Bool) (q : ℕ) → 1 ≤ q → 1 ≤ onto ds q
 unfolding onto
 onto-pos [] q h = h
 onto-pos (false ∷ ds) q h = let k = onto-pos ds q h in omega arith
 onto-pos (true ∷ ds) q h = let k = onto-pos ds q h in omega arith
 
-turns-onto : (ds : List Bool) (q : ℕ) → 1 ≤ q → turns (onto ds q) ≡ ds ++ turns q
+pub turns-onto : (ds : List Bool) (q : ℕ) → 1 ≤ q → turns (onto ds q) ≡ ds ++ turns q
 unfolding onto
 turns-onto [] q h = refl
 turns-onto (false ∷ ds) q h = turns-even (onto ds q) (onto-pos ds q h) ∙ ap (false ∷_) (turns-onto ds q h)
@@ -83,7 +83,7 @@ lookup-compose p q t hp hq =
     ∙ rw (lookup-turns p t hp) (ap (and-then (follow (turns p) t)) (sym (fun-ext (λ u. lookup-turns q u hq))))
 
 -- composing three paths gives the same number however they are bigint-from-bytes
-onto-append : (ds es : List Bool) (r : ℕ) → onto (ds ++ es) r ≡ onto ds (onto es r)
+pub onto-append : (ds es : List Bool) (r : ℕ) → onto (ds ++ es) r ≡ onto ds (onto es r)
 unfolding onto
 onto-append [] es r = refl
 onto-append (false ∷ ds) es r = ap (2 *_) (onto-append ds es r)

@@ -44,7 +44,7 @@ or-part d r t k = go (match-sexp (cons-optimizer-pattern (part-byte d)) r []) re
     go (matched ks) e =
         let (a, b, i, j) = part-of-cons-shape (part-byte d) r ks e in
         keeps-at i (bound-part d a b t ks j) (part-of-cons d a b)
-    go no-match e = k
+    go (no-match ds) e = k
     go too-many-names e = k
 
 -- `cons_optimizer` keeps values
@@ -89,7 +89,7 @@ nil-keeps p r f = go (match-sexp p r []) refl
   where
     go : (m : Match) → match-sexp p r [] ≡ m → Keeps r (nil-if m r)
     go (matched ks) e = f ks e
-    go no-match e = keeps-refl r
+    go (no-match ds) e = keeps-refl r
     go too-many-names e = keeps-refl r
 
 nil-quoted : Keeps (quote nil) nil

@@ -19,7 +19,7 @@ use Rattle.meaning.proofs.Sizes.{size, smaller-differs}
 
 -- nothing matched
 pub data Unmatched : Match → Type 0 where
-  none-matched : Unmatched no-match
+  none-matched : (ds : List Bool) → Unmatched (no-match ds)
   too-many : Unmatched too-many-names
 
 -- ---- rule 1
@@ -42,7 +42,7 @@ cons-differs o n r t h = go (match-sexp (cons-optimizer-pattern o) r []) refl h
     go (matched ks) e k =
         let (a, b, i, j) = part-of-cons-shape o r ks e in
         rw i (part-differs o n first-name rest-name a b t (rw j at k))
-    go no-match e k = cc
+    go (no-match ds) e k = cc
     go too-many-names e k = cc
 
 pub cons-first : (r a : Tree) → got first-name (match-sexp (cons-optimizer-pattern 5) r []) ≡ some a → (cons-optimizer r ≡ a) × (equal-to r a ≡ false)
@@ -105,7 +105,7 @@ path-first r ks h s = rw (h, path-optimizer)
 pub path-second : (r : Tree) (m : Match) → match-sexp (atom-pattern 5) r [] ≡ m → Unmatched m → (s : Spent)
     → path-optimizer r s ≡ longer r (got atom-name (match-sexp (atom-pattern 6) r [])) 3 s
 unfolding path-optimizer
-path-second r m h none-matched s = rw (h, path-optimizer)
+path-second r m h (none-matched ds) s = rw (h, path-optimizer)
 path-second r m h too-many s = rw (h, path-optimizer)
 
 -- a path is an atom, and what it is made from a pair
@@ -122,7 +122,7 @@ quote-null-gives r ks h = (rw (h, quote-null-optimizer), rw (quote-null-shape r 
 
 pub quote-null-same : (r : Tree) (m : Match) → match-sexp quote-pattern-1 r [] ≡ m → Unmatched m → quote-null-optimizer r ≡ r
 unfolding quote-null-optimizer
-quote-null-same r m h none-matched = rw (h, quote-null-optimizer)
+quote-null-same r m h (none-matched ds) = rw (h, quote-null-optimizer)
 quote-null-same r m h too-many = rw (h, quote-null-optimizer)
 
 pub apply-null-gives : (r : Tree) (ks : List Binding) → match-sexp apply-null-pattern-1 r [] ≡ matched ks → (apply-null-optimizer r ≡ nil) × (equal-to r nil ≡ false)
@@ -131,5 +131,5 @@ apply-null-gives r ks h = let (t, e) = apply-null-shape r ks h in (rw (h, apply-
 
 pub apply-null-same : (r : Tree) (m : Match) → match-sexp apply-null-pattern-1 r [] ≡ m → Unmatched m → apply-null-optimizer r ≡ r
 unfolding apply-null-optimizer
-apply-null-same r m h none-matched = rw (h, apply-null-optimizer)
+apply-null-same r m h (none-matched ds) = rw (h, apply-null-optimizer)
 apply-null-same r m h too-many = rw (h, apply-null-optimizer)

@@ -73,7 +73,7 @@ applied-shape r s a h = go (match-sexp apply-pattern r []) refl h
         let (x, y, i, j) = apply-shape r ks e in
         let k′ : applied x y ≡ applied s a = rw j at k in
         cc
-    go no-match e k = cc
+    go (no-match ds) e k = cc
     go too-many-names e k = cc
 
 -- `quote_pattern_1` matches (q . 0) only
@@ -122,5 +122,5 @@ part-of-atom-shape o s t g = go (match-sexp (atom-pattern o) s []) refl g
   where
     go : (m : Match) → match-sexp (atom-pattern o) s [] ≡ m → got atom-name m ≡ some t → s ≡ part-of o t
     go (matched js) e k = part-of-leaf o s t js e k
-    go no-match e k = cc
+    go (no-match ds) e k = cc
     go too-many-names e k = cc

@@ -33,7 +33,7 @@ part-gives d a env l r g = go (match-sexp cons-pattern a []) refl
         let (x, y, i, j) = cons-shape a [] ks refl e in
         subst (λ z. Gives z env (side d l r)) (sym (bound-part d x y (part-of (part-byte d) a) ks j))
         (cons-part d x y env l r (subst (λ z. Gives z env (pair l r)) i g))
-    go no-match e = part-intro d a env l r g
+    go (no-match ds) e = part-intro d a env l r g
     go too-many-names e = part-intro d a env l r g
 
 path-gives : (ds : List Bool) (a env w v : Tree) → Gives a env w → follow ds w ≡ some v → Gives (path-from-args ds a) env v

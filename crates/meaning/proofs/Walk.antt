@@ -73,11 +73,11 @@ module _ (K : Kept) where
       second = got atom-name (match-sexp (atom-pattern 6) r [])
 
       to : Match → W Tree
-      to m = elim m [ matched ks ↦ longer r (got atom-name (matched ks)) 2 | no-match ↦ longer r second 3 | too-many-names ↦ longer r second 3 ]
+      to m = elim m [ matched ks ↦ longer r (got atom-name (matched ks)) 2 | no-match ds ↦ longer r second 3 | too-many-names ↦ longer r second 3 ]
 
       go : (m : Match) → K .rel (to m) (to m)
       go (matched ks) = walk-longer r (got atom-name (matched ks)) 2
-      go no-match = walk-longer r second 3
+      go (no-match ds) = walk-longer r second 3
       go too-many-names = walk-longer r second 3
 
   -- ---- a pass over rules one by one

@@ -36,6 +36,10 @@ step-limit = 4_096
 abbrev pub path-limit : ℕ
 path-limit = 64
 
+-- turns of a path that 64 bytes hold, below its top bit
+abbrev pub place-turns : ℕ
+place-turns = 511
+
 abbrev pub pair-cost : ℕ
 pair-cost = 8
 

@@ -197,7 +197,7 @@ unfoldable pub path-optimizer : Tree → W Tree
 unfolding match-sexp longer got atom-pattern give
 path-optimizer r = elim (match-sexp (atom-pattern 5) r []) [
   | matched ks ↦ longer r (got atom-name (matched ks)) 2
-  | no-match ↦ longer r (got atom-name (match-sexp (atom-pattern 6) r [])) 3
+  | no-match ds ↦ longer r (got atom-name (match-sexp (atom-pattern 6) r [])) 3
   | too-many-names ↦ longer r (got atom-name (match-sexp (atom-pattern 6) r [])) 3
 ]
 
@@ -205,7 +205,7 @@ path-optimizer r = elim (match-sexp (atom-pattern 5) r []) [
 
 unfoldable pub nil-if : Match → Tree → Tree
 nil-if (matched ks) r = nil
-nil-if no-match r = r
+nil-if (no-match ds) r = r
 nil-if too-many-names r = r
 
 -- `quote_pattern_1`: (q . 0)

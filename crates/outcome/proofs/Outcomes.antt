@@ -10,7 +10,7 @@ use Rattle.refusals.specs.declared.Refusal.{Refusal}
 use Rattle.refusals.specs.Numbers.{number-of}
 use Rattle.meaning.specs.Tree.{Tree}
 use Rattle.meaning.specs.Form.{read-form, write}
-use Rattle.meaning.specs.Outcome.{Outcome, plain, no-match, too-many-names, answered, refused, deliver, deliver-tree}
+use Rattle.meaning.specs.Outcome.{Outcome, Tag, answered, refused, deliver, deliver-tree}
 use Rattle.meaning.specs.Run.{run, worked, deliver-run, mark-number}
 use Rattle.meaning.proofs.Tests.{on-bool}
 use Rattle.meaning.proofs.Lent.{every}
@@ -18,7 +18,7 @@ use Rattle.evaluation.specs.Bytes as evaluation
 use Rattle.form.specs.Bytes as form
 use Rattle.lines.specs.Text.{out-most, line-most, ok-tree, numbers-line}
 use Rattle.lines.proofs.Lengths.{tree-length, end-most, no-most}
-use Rattle.outcome.specs.Line.{no-match-line, too-many-line, line-with, ok-line, line-of}
+use Rattle.outcome.specs.Line.{line-with, ok-line, line-of}
 
 -- ---- outcomes that deliver a tree
 
@@ -53,12 +53,10 @@ write-counted f room m = every (Counted m) (form.delivered-write m) (counted-ref
 
 -- ---- the longest line
 
--- a line is short where that of a plain answer is
-pub with-most : (ok : List ℕ → List ℕ → List ℕ) (o : Outcome) → ((bytes ns : List ℕ) → o ≡ answered bytes plain ns → length (ok bytes ns) ≤ line-most) → length (line-with ok o) ≤ line-most
-unfolding line-with no-match-line too-many-line
-with-most ok (answered bytes plain ns) h = h bytes ns refl
-with-most ok (answered bytes no-match ns) h = omega arith
-with-most ok (answered bytes too-many-names ns) h = omega arith
+-- a line is short where that of an answer is
+pub with-most : (ok : List ℕ → List ℕ → List ℕ) (o : Outcome) → ((bytes : List ℕ) (tag : Tag) (ns : List ℕ) → o ≡ answered bytes tag ns → length (ok bytes ns) ≤ line-most) → length (line-with ok o) ≤ line-most
+unfolding line-with
+with-most ok (answered bytes tag ns) h = h bytes tag ns refl
 with-most ok (refused n) h = no-most (number-of n)
 
 ok-most : (m : ℕ) (bytes ns : List ℕ) → m ≤ out-most → length bytes ≤ m → length ns ≤ 3 → length (ok-line bytes ns) ≤ line-most
@@ -71,7 +69,7 @@ ok-most m bytes ns h b n =
 
 pub line-short : (m : ℕ) (o : Outcome) → m ≤ out-most → Counted m o → length (line-of o) ≤ line-most
 unfolding line-of Counted
-line-short m o h c = with-most (λ bytes ns. ok-line bytes (drop 1 ns)) o (λ bytes ns e. go bytes ns (rw e at c))
+line-short m o h c = with-most (λ bytes ns. ok-line bytes (drop 1 ns)) o (λ bytes tag ns e. go bytes tag ns (rw e at c))
   where
-    go : (bytes ns : List ℕ) → Counted m (answered bytes plain ns) → length (ok-line bytes (drop 1 ns)) ≤ line-most
-    go bytes ns d = ok-most m bytes (drop 1 ns) h (d .0) (d .1 .1)
+    go : (bytes : List ℕ) (tag : Tag) (ns : List ℕ) → Counted m (answered bytes tag ns) → length (ok-line bytes (drop 1 ns)) ≤ line-most
+    go bytes tag ns d = ok-most m bytes (drop 1 ns) h (d .0) (d .1 .1)

@@ -1,25 +1,15 @@
 -- What is printed for an outcome: one line. Document 01, "Forms on both sides".
 use Prim.Native.Nat.{ℕ}
-use mathlib.Core.List.{List, [], _∷_, _++_}
+use mathlib.Core.List.{List, _++_}
 use lib.ListN.{drop}
 use Rattle.refusals.specs.Numbers.{number-of}
-use Rattle.meaning.specs.Outcome.{Outcome, plain, no-match, too-many-names, answered, refused}
+use Rattle.meaning.specs.Outcome.{Outcome, answered, refused}
 use Rattle.lines.specs.Text.{ok-tree, numbers-line, no-number}
 
--- `no match`
-unfoldable pub no-match-line : List ℕ
-no-match-line = 110 ∷ 111 ∷ 32 ∷ 109 ∷ 97 ∷ 116 ∷ 99 ∷ 104 ∷ 10 ∷ []
-
--- `too many names`
-unfoldable pub too-many-line : List ℕ
-too-many-line = 116 ∷ 111 ∷ 111 ∷ 32 ∷ 109 ∷ 97 ∷ 110 ∷ 121 ∷ 32 ∷ 110 ∷ 97 ∷ 109 ∷ 101 ∷ 115 ∷ 10 ∷ []
-
--- the line of an outcome, where `ok` is that of a plain answer; "or `no` and the number"
+-- the line of an outcome, where `ok` is that of an answer; "or `no` and the number"
 unfoldable pub line-with : (List ℕ → List ℕ → List ℕ) → Outcome → List ℕ
-unfolding no-match-line too-many-line no-number
-line-with ok (answered bytes plain ns) = ok bytes ns
-line-with ok (answered bytes no-match ns) = no-match-line
-line-with ok (answered bytes too-many-names ns) = too-many-line
+unfolding no-number
+line-with ok (answered bytes tag ns) = ok bytes ns
 line-with ok (refused n) = no-number (number-of n)
 
 -- "`ok`, the tree in hex, passes, units, mark": the tree and the numbers after its length

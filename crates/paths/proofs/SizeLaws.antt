@@ -59,3 +59,6 @@ bytes-long n k h =
     let l : 256 ^ k ≤ number (bytes-of n) = large (bytes-of n) 0 k (omega arith) x (omega arith) in
     let e : number (bytes-of n) ≡ n = number-bytes-of n in
     omega arith
+
+pub short-bytes : (n k : ℕ) → n < 256 ^ k → length (bytes-of n) ≤ k
+short-bytes n k h = on-lt k (length (bytes-of n)) (λ l. let b : 256 ^ k ≤ n = bytes-long n k l in absurd (omega arith)) (λ l. l)

@@ -171,11 +171,11 @@ inserted-two ks name node z e = simp (ne-eqb _ _ z, ne-eqb _ _ e)
 
 -- what it answers stands for
 module _ {f s : List ℕ} {c : Charges} (ks : Bindings) {n m : ℕ} (h : Bound f s c ks) (a : Named f s c n) (r : Ready f s c m) where
-  pub insert-is : matchAt f s (inserted ks n m) ≡ meaning.insert (bindingAt f s n m) (bindingsAt f s ks)
-  unfolding matchAt meaning.insert bindingsAt
+  pub insert-is : matchAt f s (inserted ks n m) ≡ meaning.verdict (meaning.insert (bindingAt f s n m) (bindingsAt f s ks))
+  unfolding matchAt meaning.insert meaning.verdict bindingsAt
   insert-is = go (ks .count) refl
     where
-      go : (k : ℕ) → ks .count ≡ k → matchAt f s (inserted ks n m) ≡ meaning.insert (bindingAt f s n m) (bindingsAt f s ks)
+      go : (k : ℕ) → ks .count ≡ k → matchAt f s (inserted ks n m) ≡ meaning.verdict (meaning.insert (bindingAt f s n m) (bindingsAt f s ks))
       go zero e = rw (← inserted-none ks n m e, e)
       go (suc zero) e = rw (← inserted-one ks n m (λ z. omega arith) e, e)
       go (suc (suc k)) e =

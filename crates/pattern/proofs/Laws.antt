@@ -7,6 +7,7 @@ use Prim.Native.Nat.{ℕ, _<_}
 use native.Mathlib.Omega.{arith}
 use Rattle.meaning.specs.Tree.{Tree, atom, pair, same-bytes, equal-to}
 use Rattle.meaning.specs.Match as meaning
+use Rattle.meaning.proofs.Verdict.{is-matched, is-failed, is-third, in-part-verdict}
 use Rattle.store.specs.declared.Cell.{Cell}
 use Rattle.store.specs.declared.Cell.the-variants.{Pair, Atom}
 use Rattle.store.specs.declared.Charges.{Charges}
@@ -31,20 +32,20 @@ use Rattle.pattern.proofs.Kept as kept
 
 -- the same answer for what is equal
 pub match-as : {f s s′ : List ℕ} {c : Charges} {a : Match} {m m′ : meaning.Match} → m ≡ m′ → MatchOk f s s′ c a m → MatchOk f s s′ c a m′
-match-as e h = record { answer = h .answer ∙ e; bound = h .bound; grown = h .grown }
+match-as e h = record { answer = h .answer ∙ ap meaning.verdict e; bound = h .bound; grown = h .grown }
 
 module _ {f s : List ℕ} {c : Charges} {m : meaning.Match} where
   -- with no change of the room
   pub match-known : (ks : Bindings) → Bound f s c ks → meaning.matched (bindingsAt f s ks) ≡ m → MatchOk f s s c (Matched ks) m
-  unfolding matchAt BoundIn
-  match-known ks h e = record { answer = e; bound = h; grown = ready.grown-none f s c (h .firstNode .held) }
+  unfolding matchAt BoundIn meaning.verdict
+  match-known ks h e = record { answer = ap meaning.verdict e; bound = h; grown = ready.grown-none f s c (h .firstNode .held) }
 
   pub match-none : Held f s c → meaning.matched [] ≡ m → MatchOk f s s c (Matched noBindings) m
   match-none h e = match-known noBindings (kept.none-bound h) (ap meaning.matched (kept.none-are f s) ∙ e)
 
-  pub match-not : Held f s c → meaning.no-match ≡ m → MatchOk f s s c NoMatch m
-  unfolding matchAt BoundIn
-  match-not h e = record { answer = e; bound = tt; grown = ready.grown-none f s c h }
+  pub match-not : Held f s c → meaning.no-match [] ≡ m → MatchOk f s s c NoMatch m
+  unfolding matchAt BoundIn meaning.verdict
+  match-not h e = record { answer = ap meaning.verdict e; bound = tt; grown = ready.grown-none f s c h }
 
 -- what is bound are nodes; what is found is one
 pub bound-of : {f s s′ : List ℕ} {c : Charges} {a : Match} {m : meaning.Match} {ks : Bindings} → MatchOk f s s′ c a m → a ≡ Matched ks → Bound f s′ c ks
@@ -62,7 +63,7 @@ module _ (ks : List meaning.Binding) (n : List ℕ) (t : Tree) where
   unfolding meaning.unify-bindings
   found-equal u e d = rw (← e, ← d, meaning.unify-bindings)
 
-  found-other : (u : Tree) → some u ≡ meaning.get n ks → false ≡ equal-to u t → meaning.no-match ≡ meaning.unify-bindings ks n t
+  found-other : (u : Tree) → some u ≡ meaning.get n ks → false ≡ equal-to u t → meaning.no-match [] ≡ meaning.unify-bindings ks n t
   unfolding meaning.unify-bindings
   found-other u e d = rw (← e, ← d, meaning.unify-bindings)
 
@@ -79,17 +80,17 @@ module _ (f s : List ℕ) (c : Charges) (ks : Bindings) (z : List ℕ) (n m : �
 
     module _ (s₁ : List ℕ) (r : Bool) (a : Answered f s s₁ c r (equal-to (treeAt f s u) (treeAt f s m))) (b : Bound f s c ks) where
       pub unify-same : r ≡ true → MatchOk f s s₁ c (Matched ks) (meaning.unify-bindings (bindingsAt f s ks) (bytesAt f s n) (treeAt f s m))
-      unfolding matchAt BoundIn
+      unfolding matchAt BoundIn meaning.verdict
       unify-same d = record {
-        answer = ap meaning.matched (kept.bindings-after (a .grown) b) ∙ found-equal (bindingsAt f s ks) (bytesAt f s n) (treeAt f s m) (treeAt f s u) is-at (sym d ∙ a .answer);
+        answer = ap meaning.yes (kept.bindings-after (a .grown) b) ∙ ap meaning.verdict (found-equal (bindingsAt f s ks) (bytesAt f s n) (treeAt f s m) (treeAt f s u) is-at (sym d ∙ a .answer));
         bound = kept.bound-after (a .grown) b;
         grown = a .grown;
       }
 
       pub unify-other : r ≡ false → MatchOk f s s₁ c NoMatch (meaning.unify-bindings (bindingsAt f s ks) (bytesAt f s n) (treeAt f s m))
-      unfolding matchAt BoundIn
+      unfolding matchAt BoundIn meaning.verdict
       unify-other d = record {
-        answer = found-other (bindingsAt f s ks) (bytesAt f s n) (treeAt f s m) (treeAt f s u) is-at (sym d ∙ a .answer);
+        answer = ap meaning.verdict (found-other (bindingsAt f s ks) (bytesAt f s n) (treeAt f s m) (treeAt f s u) is-at (sym d ∙ a .answer));
         bound = tt;
         grown = a .grown;
       }
@@ -100,7 +101,7 @@ module _ (f s : List ℕ) (c : Charges) (ks : Bindings) (z : List ℕ) (n m : �
   unify-new a ea e h ez b o r =
       let w : none ≡ meaning.get (bytesAt f s n) (bindingsAt f s ks) = rw (← ez) (rw e at (h .answer)) in
       rw ea (record {
-        answer = kept.insert-is ks b o r ∙ not-found (bindingsAt f s ks) (bytesAt f s n) (treeAt f s m) w;
+        answer = kept.insert-is ks b o r ∙ ap meaning.verdict (not-found (bindingsAt f s ks) (bytesAt f s n) (treeAt f s m) w);
         bound = kept.insert-bound ks b o r;
         grown = ready.grown-none f s c (r .held);
       })
@@ -239,7 +240,7 @@ module _ (f s : List ℕ) (c : Charges) (p n a b l r : ℕ) (ks : Bindings) (q q
   abbrev Whole : meaning.Match
   Whole = meaning.match-sexp (treeAt f s p) (treeAt f s n) (bindingsAt f s ks)
 
-  any-is : (u : Bool) → u ≡ takes-any (treeAt f s a) (treeAt f s b) → u ≡ true → meaning.unify-bindings (bindingsAt f s ks) (bytesAt f s b) (treeAt f s n) ≡ Whole
+  pub any-is : (u : Bool) → u ≡ takes-any (treeAt f s a) (treeAt f s b) → u ≡ true → meaning.unify-bindings (bindingsAt f s ks) (bytesAt f s b) (treeAt f s n) ≡ Whole
   any-is u eu d =
       let nb : Named f s c b = any-named f s c a b u eu d (ready.ready-right f s c p a b q ep eq rp) in
       let t : true ≡ takes-any (treeAt f s a) (atom (bytesAt f s b)) = rw (kept.name-tree nb) at (sym d ∙ eu) in
@@ -254,20 +255,24 @@ module _ {f s s₁ : List ℕ} {c : Charges} {p n a b l r : ℕ} {ks : Bindings}
 
   -- the left part did not match
   pub whole-not : MatchOk f s s₁ c x (meaning.match-sexp (treeAt f s a) (treeAt f s l) (bindingsAt f s ks)) → x ≡ NoMatch → u ≡ takes-any (treeAt f s a) (treeAt f s b) → u ≡ false → q ≡ cellAt s p → q ≡ Pair a b → q′ ≡ cellAt s n → q′ ≡ Pair l r → Ready f s c p → Ready f s c n → Bound f s c ks → MatchOk f s s₁ c NoMatch (meaning.match-sexp (treeAt f s p) (treeAt f s n) (bindingsAt f s ks))
-  unfolding matchAt BoundIn
-  whole-not h ex eu d eq ep eq′ ep′ rp rn bd = record {
-    answer = trees.parts-not (treeAt f s a) (treeAt f s b) (treeAt f s l) (treeAt f s r) (bindingsAt f s ks) (rw ex at (h .answer)) ∙ parts-are f s c p n a b l r ks q q′ eq ep eq′ ep′ rp u eu d;
-    bound = tt;
-    grown = h .grown;
-  }
+  unfolding matchAt BoundIn meaning.verdict
+  whole-not h ex eu d eq ep eq′ ep′ rp rn bd =
+      let (ds, e) = is-failed (meaning.match-sexp (treeAt f s a) (treeAt f s l) (bindingsAt f s ks)) (rw ex at (h .answer)) in
+      record {
+        answer = ap meaning.verdict (trees.parts-not (treeAt f s a) (treeAt f s b) (treeAt f s l) (treeAt f s r) (bindingsAt f s ks) ds e ∙ parts-are f s c p n a b l r ks q q′ eq ep eq′ ep′ rp u eu d);
+        bound = tt;
+        grown = h .grown;
+      }
 
   pub whole-many : MatchOk f s s₁ c x (meaning.match-sexp (treeAt f s a) (treeAt f s l) (bindingsAt f s ks)) → x ≡ TooManyNames → u ≡ takes-any (treeAt f s a) (treeAt f s b) → u ≡ false → q ≡ cellAt s p → q ≡ Pair a b → q′ ≡ cellAt s n → q′ ≡ Pair l r → Ready f s c p → Ready f s c n → Bound f s c ks → MatchOk f s s₁ c TooManyNames (meaning.match-sexp (treeAt f s p) (treeAt f s n) (bindingsAt f s ks))
-  unfolding matchAt BoundIn
-  whole-many h ex eu d eq ep eq′ ep′ rp rn bd = record {
-    answer = trees.parts-many (treeAt f s a) (treeAt f s b) (treeAt f s l) (treeAt f s r) (bindingsAt f s ks) (rw ex at (h .answer)) ∙ parts-are f s c p n a b l r ks q q′ eq ep eq′ ep′ rp u eu d;
-    bound = tt;
-    grown = h .grown;
-  }
+  unfolding matchAt BoundIn meaning.verdict
+  whole-many h ex eu d eq ep eq′ ep′ rp rn bd =
+      let e : meaning.too-many-names ≡ meaning.match-sexp (treeAt f s a) (treeAt f s l) (bindingsAt f s ks) = is-third _ (rw ex at (h .answer)) in
+      record {
+        answer = ap meaning.verdict (trees.parts-many (treeAt f s a) (treeAt f s b) (treeAt f s l) (treeAt f s r) (bindingsAt f s ks) e ∙ parts-are f s c p n a b l r ks q q′ eq ep eq′ ep′ rp u eu d);
+        bound = tt;
+        grown = h .grown;
+      }
 
   -- it did, and then the right part was matched
   pub whole-both : {s₂ : List ℕ} {y : Match} {js : Bindings} → MatchOk f s₁ s₂ c y (meaning.match-sexp (treeAt f s₁ b) (treeAt f s₁ r) (bindingsAt f s₁ js)) → MatchOk f s s₁ c x (meaning.match-sexp (treeAt f s a) (treeAt f s l) (bindingsAt f s ks)) → x ≡ Matched js → u ≡ takes-any (treeAt f s a) (treeAt f s b) → u ≡ false → q ≡ cellAt s p → q ≡ Pair a b → q′ ≡ cellAt s n → q′ ≡ Pair l r → Ready f s c p → Ready f s c n → Bound f s c ks → MatchOk f s s₂ c y (meaning.match-sexp (treeAt f s p) (treeAt f s n) (bindingsAt f s ks))
@@ -275,8 +280,11 @@ module _ {f s s₁ : List ℕ} {c : Charges} {p n a b l r : ℕ} {ks : Bindings}
   whole-both {s₂} {y} {js} g h ex eu d eq ep eq′ ep′ rp rn bd =
       let tb : treeAt f s₁ b ≡ treeAt f s b = ready.grown-tree (h .grown) (ready.ready-right f s c p a b q ep eq rp) in
       let tr : treeAt f s₁ r ≡ treeAt f s r = ready.grown-tree (h .grown) (ready.ready-right f s c n l r q′ ep′ eq′ rn) in
+      let e : meaning.matched (bindingsAt f s₁ js) ≡ meaning.match-sexp (treeAt f s a) (treeAt f s l) (bindingsAt f s ks) = is-matched _ _ (rw ex at (h .answer)) in
+      let i : meaning.in-part true (meaning.match-sexp (treeAt f s b) (treeAt f s r) (bindingsAt f s₁ js)) ≡ meaning.match-sexp (treeAt f s p) (treeAt f s n) (bindingsAt f s ks) =
+      trees.parts-matched (treeAt f s a) (treeAt f s b) (treeAt f s l) (treeAt f s r) (bindingsAt f s ks) (bindingsAt f s₁ js) e ∙ parts-are f s c p n a b l r ks q q′ eq ep eq′ ep′ rp u eu d in
       record {
-        answer = g .answer ∙ rw (tb, tr) (trees.parts-matched (treeAt f s a) (treeAt f s b) (treeAt f s l) (treeAt f s r) (bindingsAt f s ks) (bindingsAt f s₁ js) (rw ex at (h .answer)) ∙ parts-are f s c p n a b l r ks q q′ eq ep eq′ ep′ rp u eu d);
+        answer = g .answer ∙ rw (tb, tr) (sym (in-part-verdict true (meaning.match-sexp (treeAt f s b) (treeAt f s r) (bindingsAt f s₁ js))) ∙ ap meaning.verdict i);
         bound = g .bound;
         grown = ready.grown-both (h .grown) (g .grown);
       }
@@ -290,15 +298,15 @@ after-match h r = ready.grown-ready (h .grown) r
 module _ {f s s′ : List ℕ} {c : Charges} {a : Match} {m : meaning.Match} (h : MatchOk f s s′ c a m) where
   pub got-in : {ks : Bindings} → a ≡ Matched ks → (name : List ℕ) → meaning.get name (bindingsAt f s′ ks) ≡ meaning.got name m
   unfolding matchAt meaning.got
-  got-in {ks} e name = rw (← h .answer, e)
+  got-in {ks} e name = ap (meaning.got name) (is-matched m (bindingsAt f s′ ks) (rw e at (h .answer)))
 
   pub got-not : a ≡ NoMatch → (name : List ℕ) → none ≡ meaning.got name m
   unfolding matchAt meaning.got
-  got-not e name = rw (← h .answer, e)
+  got-not e name = let (ds, i) = is-failed m (rw e at (h .answer)) in ap (meaning.got name) i
 
   pub got-many : a ≡ TooManyNames → (name : List ℕ) → none ≡ meaning.got name m
   unfolding matchAt meaning.got
-  got-many e name = rw (← h .answer, e)
+  got-many e name = ap (meaning.got name) (is-third m (rw e at (h .answer)))
 
 -- ---- matched_node and got_node
 

@@ -1,11 +1,11 @@
 -- match_sexp by the shape of pattern and expression, as the code tests it.
 use mathlib.Core.Path.{_≡_, refl}
-use mathlib.Core.List.{List, []}
-use mathlib.Core.Bool.{true, false, _&&_, not}
+use mathlib.Core.List.{List, [], _∷_}
+use mathlib.Core.Bool.{Bool, true, false, _&&_, not}
 use Prim.Native.Nat.{ℕ}
 use native.Mathlib.Omega.{arith}
 use Rattle.meaning.specs.Tree.{Tree, atom, pair, is-byte, same-bytes}
-use Rattle.meaning.specs.Match.{Match, matched, no-match, too-many-names, Binding, atom-match, sexp-match, match-sexp, at-atom, unify-bindings, _and-then_}
+use Rattle.meaning.specs.Match.{Match, matched, no-match, too-many-names, Binding, atom-match, sexp-match, match-sexp, at-atom, unify-bindings, _and-then_, in-part}
 use Rattle.sexp.specs.Tests.{is-byte-tree}
 use Rattle.pattern.specs.Cases.{takes-any}
 
@@ -30,7 +30,7 @@ any-atom (pair c d) b e = let z : _≡_ {A = ℕ} 0 1 = cc in absurd (omega arit
 -- ---- the pattern is an atom
 
 module _ (p : List ℕ) (ks : List Binding) where
-  pub atom-pair : (l r : Tree) → no-match ≡ match-sexp (atom p) (pair l r) ks
+  pub atom-pair : (l r : Tree) → no-match [] ≡ match-sexp (atom p) (pair l r) ks
   unfolding match-sexp
   atom-pair l r = refl
 
@@ -38,13 +38,13 @@ module _ (p : List ℕ) (ks : List Binding) where
   unfolding match-sexp
   atom-same s e = rw (← e, match-sexp)
 
-  pub atom-other : (s : List ℕ) → false ≡ same-bytes p s → no-match ≡ match-sexp (atom p) (atom s) ks
+  pub atom-other : (s : List ℕ) → false ≡ same-bytes p s → no-match [] ≡ match-sexp (atom p) (atom s) ks
   unfolding match-sexp
   atom-other s e = rw (← e, match-sexp)
 
 -- ---- the pattern (x . y) at the atom s
 
-pub at-pair : (x c d : Tree) (s : List ℕ) (ks : List Binding) → no-match ≡ match-sexp (pair x (pair c d)) (atom s) ks
+pub at-pair : (x c d : Tree) (s : List ℕ) (ks : List Binding) → no-match [] ≡ match-sexp (pair x (pair c d)) (atom s) ks
 unfolding match-sexp
 at-pair (atom a) c d s ks = refl
 at-pair (pair a b) c d s ks = refl
@@ -65,9 +65,9 @@ module _ (b s : List ℕ) (ks : List Binding) where
     unfolding is-byte-tree match-sexp at-atom
     dollar-both eb es = head (λ t. matched [] ≡ At t b s ks) atom-match x e (λ a ea. rw (← ea, ← eb, ← es, match-sexp, at-atom))
 
-    pub dollar-one : true ≡ is-byte-tree atom-match (atom b) → false ≡ is-byte-tree atom-match (atom s) → no-match ≡ At x b s ks
+    pub dollar-one : true ≡ is-byte-tree atom-match (atom b) → false ≡ is-byte-tree atom-match (atom s) → no-match [] ≡ At x b s ks
     unfolding is-byte-tree match-sexp at-atom
-    dollar-one eb es = head (λ t. no-match ≡ At t b s ks) atom-match x e (λ a ea. rw (← ea, ← eb, ← es, match-sexp, at-atom))
+    dollar-one eb es = head (λ t. no-match [] ≡ At t b s ks) atom-match x e (λ a ea. rw (← ea, ← eb, ← es, match-sexp, at-atom))
 
     pub dollar-name : false ≡ is-byte-tree atom-match (atom b) → unify-bindings ks b (atom s) ≡ At x b s ks
     unfolding is-byte-tree match-sexp at-atom
@@ -88,7 +88,7 @@ module _ (b s : List ℕ) (ks : List Binding) where
     colon-name es = colon (unify-bindings ks b (atom s)) (λ a da ea. rw (← da, ← ea, ← es, match-sexp, at-atom))
 
   -- any other head
-  pub at-other : (x : Tree) → false ≡ is-byte-tree atom-match x → false ≡ is-byte-tree sexp-match x → no-match ≡ At x b s ks
+  pub at-other : (x : Tree) → false ≡ is-byte-tree atom-match x → false ≡ is-byte-tree sexp-match x → no-match [] ≡ At x b s ks
   unfolding is-byte-tree match-sexp at-atom
   at-other (atom a) d e = rw (← d, ← e, match-sexp, at-atom)
   at-other (pair c q) d e = refl
@@ -102,7 +102,7 @@ pair-any (pair c d) b l r ks e = let z : _≡_ {A = ℕ} 0 1 = cc in absurd (ome
 
 -- part by part
 abbrev pub in-parts : (x y l r : Tree) → List Binding → Match
-in-parts x y l r ks = match-sexp x l ks and-then λ js. match-sexp y r js
+in-parts x y l r ks = in-part false (match-sexp x l ks) and-then λ js. in-part true (match-sexp y r js)
 
 pub pair-parts : (x y l r : Tree) (ks : List Binding) → false ≡ takes-any x y → in-parts x y l r ks ≡ match-sexp (pair x y) (pair l r) ks
 unfolding takes-any match-sexp
@@ -111,14 +111,14 @@ pair-parts (atom a) (pair c d) l r ks e = refl
 pair-parts (pair c d) y l r ks e = refl
 
 module _ (x y l r : Tree) (ks : List Binding) where
-  pub parts-matched : (js : List Binding) → matched js ≡ match-sexp x l ks → match-sexp y r js ≡ in-parts x y l r ks
-  unfolding _and-then_
+  pub parts-matched : (js : List Binding) → matched js ≡ match-sexp x l ks → in-part true (match-sexp y r js) ≡ in-parts x y l r ks
+  unfolding _and-then_ in-part
   parts-matched js e = rw (← e)
 
-  pub parts-not : no-match ≡ match-sexp x l ks → no-match ≡ in-parts x y l r ks
-  unfolding _and-then_
-  parts-not e = rw (← e)
+  pub parts-not : (ds : List Bool) → no-match ds ≡ match-sexp x l ks → no-match (false ∷ ds) ≡ in-parts x y l r ks
+  unfolding _and-then_ in-part
+  parts-not ds e = rw (← e)
 
   pub parts-many : too-many-names ≡ match-sexp x l ks → too-many-names ≡ in-parts x y l r ks
-  unfolding _and-then_
+  unfolding _and-then_ in-part
   parts-many e = rw (← e)

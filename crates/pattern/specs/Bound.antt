@@ -54,20 +54,21 @@ inserted ks name node =
 
 -- ---- the matcher's answer
 
-unfoldable pub matchAt : List ℕ → List ℕ → Match → meaning.Match
+-- it says no more of a failure than the Rust does
+unfoldable pub matchAt : List ℕ → List ℕ → Match → meaning.Verdict
 unfolding bindingsAt
-matchAt f s (Matched ks) = meaning.matched (bindingsAt f s ks)
-matchAt f s NoMatch = meaning.no-match
-matchAt f s TooManyNames = meaning.too-many-names
+matchAt f s (Matched ks) = meaning.yes (bindingsAt f s ks)
+matchAt f s NoMatch = meaning.no
+matchAt f s TooManyNames = meaning.third-name
 
 unfoldable pub BoundIn : List ℕ → List ℕ → Charges → Match → Type 0
 BoundIn f s c (Matched ks) = Bound f s c ks
 BoundIn f s c NoMatch = Unit {0}
 BoundIn f s c TooManyNames = Unit {0}
 
--- the answer, read in the room after, is m; what it binds are nodes; and nothing changed but what is remembered
+-- the answer, read in the room after, is m without its turns; what it binds are nodes; and nothing changed but what is remembered
 pub record MatchOk (f s s′ : List ℕ) (c : Charges) (a : Match) (m : meaning.Match) : Type 0 where
-  pub answer : matchAt f s′ a ≡ m
+  pub answer : matchAt f s′ a ≡ meaning.verdict m
   pub bound : BoundIn f s′ c a
   pub grown : Grown f s s′ c c
 

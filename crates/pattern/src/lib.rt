@@ -127,7 +127,7 @@ fn unify_bindings(
 // ---- the cases
 
 // (: . name) takes any pair, where name is not ':'.
-fn takes_any<'a>(form: &'a [u8], room: &'a [u8], a: usize, b: usize) -> bool
+pub fn takes_any<'a>(form: &'a [u8], room: &'a [u8], a: usize, b: usize) -> bool
     requires { ⌜ Room (now room) a × Room (now room) b ⌝ }
     ensures { λ r. ⌜ r ≡ takes-any (tree-in form room a) (tree-in form room b) ⌝ }
 {

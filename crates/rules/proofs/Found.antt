@@ -6,6 +6,7 @@ use mathlib.Core.Option.{Option, none, some}
 use Rattle.meaning.specs.Tree.{Tree}
 use Rattle.meaning.specs.Match as meaning
 use Rattle.meaning.proofs.RuleDiffers.{Unmatched, none-matched, too-many}
+use Rattle.meaning.proofs.Verdict.{is-matched, is-failed, is-third}
 use Rattle.store.specs.declared.Charges.{Charges}
 use Rattle.store.specs.Nodes.{treeAt}
 use Rattle.store.specs.Store.{Ready}
@@ -37,7 +38,7 @@ module _ (f s s′ : List ℕ) (c : Charges) (g : Got) (o : Option Tree) (h : Go
 module _ (f s s′ : List ℕ) (c : Charges) (a : Match) (m : meaning.Match) (h : MatchOk f s s′ c a m) where
   pub match-bindings : (ks : Bindings) → a ≡ Matched ks → m ≡ meaning.matched (bindingsAt f s′ ks)
   unfolding matchAt
-  match-bindings ks e = let z : meaning.matched (bindingsAt f s′ ks) ≡ m = rw e at (h .answer) in sym z
+  match-bindings ks e = sym (is-matched m (bindingsAt f s′ ks) (rw e at (h .answer)))
 
   pub match-bound : (ks : Bindings) → a ≡ Matched ks → Bound f s′ c ks
   unfolding BoundIn
@@ -45,11 +46,11 @@ module _ (f s s′ : List ℕ) (c : Charges) (a : Match) (m : meaning.Match) (h 
 
   pub match-none : a ≡ NoMatch → Unmatched m
   unfolding matchAt
-  match-none e = let z : meaning.no-match ≡ m = rw e at (h .answer) in rw (← z) none-matched
+  match-none e = let (ds, z) = is-failed m (rw e at (h .answer)) in rw (← z) (none-matched ds)
 
   pub match-many : a ≡ TooManyNames → Unmatched m
   unfolding matchAt
-  match-many e = let z : meaning.too-many-names ≡ m = rw e at (h .answer) in rw (← z) too-many
+  match-many e = rw (← is-third m (rw e at (h .answer))) too-many
 
 -- ---- the pattern at a node
 

@@ -116,7 +116,7 @@ module _ (f s s₁ : List ℕ) (c : Charges) (n k : ℕ) (a : Match) (h : MatchO
 
   unmatched : (m : meaning.Match) → meaning.match-sexp apply-pattern (treeAt f s n) [] ≡ m → Unmatched m → not-applied ≡ applied-of (treeAt f s n)
   unfolding applied-of meaning.got both-got
-  unmatched m e none-matched = rw e
+  unmatched m e (none-matched ds) = rw e
   unmatched m e too-many = rw e
 
   other : Unmatched (meaning.match-sexp (treeAt f s k) (treeAt f s n) []) → AppliedOk f s s₁ c Other (applied-of (treeAt f s n))

@@ -35,7 +35,7 @@ got-both t u h = go (match-sexp cons-pattern t []) refl h
         let (a, b, i, j) = cons-shape t [] ks refl e in
         let z : match-sexp cons-pattern t [] ≡ matched (bind first-name a ∷ bind rest-name b ∷ []) = e ∙ ap matched j in
         (a, rw z)
-    go no-match e k = (t, cc)
+    go (no-match ds) e k = (t, cc)
     go too-many-names e k = (t, cc)
 
 pub got-neither : (t : Tree) → got rest-name (match-sexp cons-pattern t []) ≡ none → got first-name (match-sexp cons-pattern t []) ≡ none
@@ -47,7 +47,7 @@ got-neither t h = go (match-sexp cons-pattern t []) refl h
         let (a, b, i, j) = cons-shape t [] ks refl e in
         let k′ : some b ≡ none = rw j at k in
         cc
-    go no-match e k = rw e
+    go (no-match ds) e k = rw e
     go too-many-names e k = rw e
 
 -- bound: the part itself, and nothing is charged

@@ -9,7 +9,7 @@ use lib.ListN.{length, take, drop, length-append}
 use Rattle.meaning.specs.Tree.{Tree}
 use Rattle.meaning.specs.Form.{read-form}
 use Rattle.meaning.specs.Limits.{room-least}
-use Rattle.meaning.specs.Outcome.{Outcome, plain, answered, refused, in-room}
+use Rattle.meaning.specs.Outcome.{Outcome, Tag, answered, refused, in-room}
 use Rattle.meaning.specs.Run.{mark-number, worked-on}
 use Rattle.meaning.proofs.Lent.{every}
 use Rattle.meaning.proofs.Yields.{either-way}
@@ -61,17 +61,17 @@ and-most m bytes ns h b n =
 
 pub text-short : (m : ℕ) (o : Outcome) → m ≤ out-most → Counted m o → length (text-line o) ≤ line-most
 unfolding text-line Counted
-text-short m o h c = with-most (λ bytes ns. text-and bytes (drop 1 ns)) o (λ bytes ns e. go bytes ns (rw e at c))
+text-short m o h c = with-most (λ bytes ns. text-and bytes (drop 1 ns)) o (λ bytes tag ns e. go bytes tag ns (rw e at c))
   where
-    go : (bytes ns : List ℕ) → Counted m (answered bytes plain ns) → length (text-and bytes (drop 1 ns)) ≤ line-most
-    go bytes ns d = and-most m bytes (drop 1 ns) h (d .0) (d .1 .1)
+    go : (bytes : List ℕ) (tag : Tag) (ns : List ℕ) → Counted m (answered bytes tag ns) → length (text-and bytes (drop 1 ns)) ≤ line-most
+    go bytes tag ns d = and-most m bytes (drop 1 ns) h (d .0) (d .1 .1)
 
 pub bare-short : (m : ℕ) (o : Outcome) → m ≤ out-most → Counted m o → length (bare-line o) ≤ line-most
 unfolding bare-line Counted
-bare-short m o h c = with-most (λ bytes ns. text-and bytes []) o (λ bytes ns e. go bytes ns (rw e at c))
+bare-short m o h c = with-most (λ bytes ns. text-and bytes []) o (λ bytes tag ns e. go bytes tag ns (rw e at c))
   where
-    go : (bytes ns : List ℕ) → Counted m (answered bytes plain ns) → length (text-and bytes []) ≤ line-most
-    go bytes ns d = and-most m bytes [] h (d .0) (omega arith)
+    go : (bytes : List ℕ) (tag : Tag) (ns : List ℕ) → Counted m (answered bytes tag ns) → length (text-and bytes []) ≤ line-most
+    go bytes tag ns d = and-most m bytes [] h (d .0) (omega arith)
 
 -- a place, or that there is none
 faulted : (o : Option ℕ) → length (fault-line (delivered-fault o)) ≤ line-most

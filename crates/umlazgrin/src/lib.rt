@@ -6,6 +6,7 @@ pub use form::WriteAnswer;
 pub use form::read;
 pub use form::write;
 pub use matcher::MatchAnswer;
+pub use matcher::Matching;
 pub use matcher::Parts;
 pub use matcher::matches;
 pub use optimiser::Answer;

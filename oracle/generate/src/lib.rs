@@ -11,8 +11,10 @@ mod kept;
 mod large;
 mod limits;
 pub mod options;
+mod pairs_deep;
 mod pairs_eval;
 mod pairs_match;
+mod pairs_place;
 mod paths;
 pub mod random;
 mod repeats;
@@ -58,6 +60,8 @@ pub fn print(options: &Options, sink: &mut Sink) -> bool {
         "rule-7" => rules::print(7, options, sink),
         "rule-8" => rules::print(8, options, sink),
         "pairs-match" => pairs_match::print(options, sink),
+        "pairs-place" => pairs_place::print(options, sink),
+        "pairs-deep" => pairs_deep::print(sink),
         "pairs-eval" => pairs_eval::print(options, sink),
         "path-bytes" => paths::bytes(options, sink),
         "path-atoms" => paths::atoms(options, sink),

@@ -16,7 +16,7 @@ pub fn print(options: &Options, sink: &mut Sink) {
     }
 }
 
-fn hole(kind: &[u8], name: &[u8]) -> Tree {
+pub fn hole(kind: &[u8], name: &[u8]) -> Tree {
     pair(atom(kind), atom(name))
 }
 
@@ -43,7 +43,7 @@ fn fixed(sink: &mut Sink) {
     }
 }
 
-fn expression(random: &mut Random, depth: usize) -> Tree {
+pub fn expression(random: &mut Random, depth: usize) -> Tree {
     if depth == 0 || random.once_in(4) {
         return telling(random);
     }

@@ -156,13 +156,17 @@ fn work(
         }
         Mode::Match => {
             let tree = read(store, &forms[1])?;
-            let found = matches(store, first, tree, Vec::new());
+            let found = matches(store, first, tree);
             if !published_agrees(store, first, tree, &found) {
                 out.push_str("broken: the published matcher says otherwise");
                 return Ok(());
             }
             match found {
-                Matched::No => out.push_str("no match"),
+                Matched::No(place) => {
+                    out.push_str("no match ");
+                    let place = store.free_atom(&place);
+                    put_tree(store, place, out)?;
+                }
                 Matched::TooManyNames => out.push_str("too many names"),
                 Matched::Yes(mut bindings) => {
                     bindings.sort();

@@ -2,7 +2,7 @@
 
 use umlazgrin::raw;
 
-use crate::rust::Want;
+use crate::rust::{Want, NO_MATCH, PLACE};
 use crate::{Lengths, Work};
 
 /// The most that is lent; what is not lent of it must stay as it is too.
@@ -16,6 +16,7 @@ pub struct Lent {
     room: Vec<u8>,
     out: Vec<u8>,
     report: [usize; 5],
+    place: [u8; PLACE],
     number: u8,
     /// What room and output hold before a call: bytes without order.
     noise: Vec<u8>,
@@ -29,6 +30,7 @@ impl Lent {
             room: vec![0; MOST_ROOM],
             out: vec![0; MOST_OUT],
             report: [0; 5],
+            place: [0; PLACE],
             number: 0,
             noise: (0..MOST_ROOM).map(|_| random.next() as u8).collect(),
             zeros: vec![0; MOST_ROOM],
@@ -40,10 +42,12 @@ impl Lent {
         self.room.copy_from_slice(&self.noise);
         self.out.copy_from_slice(&self.noise[..MOST_OUT]);
         self.report = [BEFORE; 5];
+        self.place.copy_from_slice(&self.noise[..PLACE]);
         let (form, count) = (forms.as_ptr(), forms.len());
         let (room, room_length) = (self.room[..lengths.room].as_mut_ptr(), lengths.room);
         let (out, out_length) = (self.out[..lengths.out].as_mut_ptr(), lengths.out);
         let report = self.report.as_mut_ptr();
+        let place = self.place.as_mut_ptr();
         // Each slice is live, apart from the others and as long as it says; the report has room for the longest.
         self.number = unsafe {
             match work {
@@ -56,6 +60,10 @@ impl Lent {
                 Work::Match { first } => {
                     raw::umlazgrin_match(form, count, first, room, room_length, out, out_length, report.cast())
                 }
+                Work::MatchPlace { first } => {
+                    let report = report.cast();
+                    raw::umlazgrin_match_place(form, count, first, room, room_length, out, out_length, report, place.cast())
+                }
                 Work::Check => raw::umlazgrin_check(form, count, room, room_length, report.cast()),
                 Work::Write => raw::umlazgrin_write(form, count, room, room_length, out, out_length, report.cast()),
             }
@@ -67,6 +75,7 @@ impl Lent {
         let (number, bytes, report): (u8, &[u8], &[usize]) = match want {
             Want::Answer { bytes, report } => (0, bytes, report),
             Want::Number(number) => (*number, &[], &[]),
+            Want::NoMatch { .. } => (NO_MATCH, &[], &[]),
             _ => return Ok(()),
         };
         if self.number != number {
@@ -75,6 +84,10 @@ impl Lent {
         let reported = &self.report[..report.len()];
         if reported != report || self.report[report.len()..].iter().any(|n| *n != BEFORE) {
             return Err(format!("the library reports {:?}, the Rust {report:?}", self.report));
+        }
+        let place = if let Want::NoMatch { place } = want { &place[..] } else { &self.noise[..PLACE] };
+        if self.place != place {
+            return Err(format!("the library says the place {:02x?}, the Rust {place:02x?}", self.place));
         }
         let (head, tail) = self.out.split_at(bytes.len());
         if head != bytes || tail != &self.noise[bytes.len()..MOST_OUT] {

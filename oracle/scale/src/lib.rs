@@ -5,7 +5,7 @@ pub mod rust;
 pub mod shrink;
 
 use lend::Lent;
-use rust::{Rust, Want};
+use rust::{Rust, Want, NO_MATCH};
 
 /// What is asked of both sides. Forms stand one after the other; `first` is the length of the first.
 #[derive(Clone, Copy, PartialEq, Eq, Debug)]
@@ -13,6 +13,7 @@ pub enum Work {
     Optimise,
     Evaluate { first: usize },
     Match { first: usize },
+    MatchPlace { first: usize },
     Check,
     Write,
 }
@@ -72,6 +73,7 @@ impl Both {
         Ok(match want {
             Want::Answer { report, .. } => Said::Answered { mark: work == Work::Optimise && report[3] == 1 },
             Want::Number(number) => Said::Number(number),
+            Want::NoMatch { .. } => Said::Number(NO_MATCH),
             Want::GaveUp | Want::Broken(_) => Said::GaveUp,
         })
     }

@@ -16,14 +16,18 @@ use crate::Work;
 pub enum Want {
     Answer { bytes: Vec<u8>, report: Vec<usize> },
     Number(u8),
+    /// No match, for a call that also says where.
+    NoMatch { place: [u8; PLACE] },
     GaveUp,
     /// The text complained of itself, or the two matchers disagree.
     Broken(String),
 }
 
 /// The matcher's numbers beside the refusals'.
-const NO_MATCH: u8 = 100;
+pub const NO_MATCH: u8 = 100;
 const TOO_MANY_NAMES: u8 = 101;
+/// The bytes that the place of a disagreement is written into.
+pub const PLACE: usize = 64;
 
 pub struct Rust {
     store: Allocator,
@@ -39,7 +43,8 @@ impl Rust {
         let worked = catch_unwind(AssertUnwindSafe(|| match work {
             Work::Optimise => optimised(store, forms, most),
             Work::Evaluate { first } => evaluated(store, forms.split_at(first), most),
-            Work::Match { first } => matched(store, forms.split_at(first), most),
+            Work::Match { first } => matched(store, forms.split_at(first), most, |_| Want::Number(NO_MATCH)),
+            Work::MatchPlace { first } => matched(store, forms.split_at(first), most, no_match_at),
             Work::Check => checked(store, forms),
             Work::Write => written(store, forms, most),
         }));
@@ -82,14 +87,26 @@ fn evaluated(store: &mut Allocator, forms: (&[u8], &[u8]), most: usize) -> Asked
     Ok(Want::Answer { bytes, report })
 }
 
-fn matched(store: &mut Allocator, forms: (&[u8], &[u8]), most: usize) -> Asked {
+/// The place's bytes at the end of those that hold it.
+fn no_match_at(bytes: Vec<u8>) -> Want {
+    let mut place = [0; PLACE];
+    place[PLACE - bytes.len()..].copy_from_slice(&bytes);
+    Want::NoMatch { place }
+}
+
+fn matched(
+    store: &mut Allocator,
+    forms: (&[u8], &[u8]),
+    most: usize,
+    no_match: fn(Vec<u8>) -> Want,
+) -> Asked {
     let (pattern, expression) = read_both(store, forms)?;
-    let found = matches(store, pattern, expression, Vec::new());
+    let found = matches(store, pattern, expression);
     if !published_agrees(store, pattern, expression, &found) {
         return Ok(Want::Broken("the published matcher says otherwise".to_string()));
     }
     let bindings = match found {
-        Matched::No => return Ok(Want::Number(NO_MATCH)),
+        Matched::No(place) => return Ok(no_match(place)),
         Matched::TooManyNames => return Ok(Want::Number(TOO_MANY_NAMES)),
         Matched::Yes(bindings) => bindings,
     };

@@ -1,14 +1,10 @@
 -- print_matched: by what the matcher says; the parts stand in the output.
+use borrow.Author.Needs.{needs}
 use Rattle.matcher.proofs.Whole.{ends-within}
-use Rattle.outcome.specs.Line.{no-match-line, too-many-line}
+use Rattle.match_line.specs.Line.{too-many-line}
 use Rattle.match_line.proofs.Told as told
 use Rattle.match_line.proofs.print_matched.Statement.{statement}
 use Rattle.match_line.proofs.print_matched.Tie as tie
-use borrow.Author.Needs.{needs}
-
-returns-2 : tie.Need-returns-2
-unfolding no-match-line
-returns-2 c = search told.not-line
 
 returns-3 : tie.Need-returns-3
 unfolding too-many-line
@@ -19,17 +15,16 @@ print-matched-spec =
     tie.close
     (tie.spec
     (λ c κs. search needs)  -- matches-requires
-    (λ c. search needs)  -- enum-known-e
+    (λ c. search needs)  -- enum-known-answer
     (λ c κs. search ends-within)  -- print-parts-requires
     (λ c. search needs)  -- slice-aggregate-print-word
     (λ c κs. search needs)  -- print-word-requires
     (λ c. search needs)  -- enum-told
+    (λ c κs. search told.place-held)  -- print-place-requires
+    (λ c. search needs)  -- enum-told-2
     (λ c. search needs)  -- slice-aggregate-print-word-2
     (λ c κs. search needs)  -- print-word-requires-2
-    (λ c. search needs)  -- enum-told-2
-    (λ c. search needs)  -- slice-aggregate-print-word-3
-    (λ c κs. search needs)  -- print-word-requires-3
-    (λ c. search needs)  -- enum-known-r
+    (λ c. search needs)  -- enum-known-answer-2
     (λ c κs. search needs)  -- number-of-requires
     (λ c κs. search needs)  -- print-no-requires
     (λ c. search needs)  -- same-length
@@ -39,7 +34,7 @@ print-matched-spec =
     (λ c. search needs)  -- same-length-4
     (λ c. search needs)  -- same-length-5
     (λ c. search needs)  -- same-length-6
-    returns-2
+    (λ c. search told.not-line)  -- returns-2
     (λ c. search needs)  -- same-length-7
     (λ c. search needs)  -- same-length-8
     (λ c. search needs)  -- same-length-9

@@ -10,8 +10,9 @@ work-spec =
     (tie.spec
     (λ c κs. search needs)  -- read-two-requires
     (λ c. search needs)  -- enum-known-e
+    (λ c κs. search needs)  -- unplaced-requires
     (λ c. search needs)  -- enum-known-p
-    (λ c κs. (search laws.pattern-ready, search laws.expression-ready))  -- matched-node-requires
+    (λ c κs. (search laws.pattern-ready, search laws.expression-ready))  -- matched-requires
     (λ c. search needs)  -- same-length
     (λ c. search laws.both-refused)  -- returns
     (λ c. search needs)  -- same-length-2

@@ -49,10 +49,10 @@ struct Scale {
     both: Both,
     /// Chooses what is lent; another seed lends otherwise.
     random: Random,
-    works: [Counts; 5],
+    works: [Counts; 6],
 }
 
-const NAMES: [&str; 5] = ["optimise", "evaluate", "match", "check", "write"];
+const NAMES: [&str; 6] = ["optimise", "evaluate", "match", "check", "write", "match with its place"];
 
 impl Scale {
     fn one(&mut self, work: Work, forms: &[u8], lengths: Lengths) {
@@ -62,6 +62,7 @@ impl Scale {
             Work::Match { .. } => 2,
             Work::Check => 3,
             Work::Write => 4,
+            Work::MatchPlace { .. } => 5,
         };
         match self.both.compare(work, forms, lengths) {
             Ok(said) => self.works[place].count(said),
@@ -85,8 +86,11 @@ impl Scale {
         let lengths = self.lengths();
         if let [first, second] = forms {
             let (both, first) = ([*first, *second].concat(), first.len());
-            let work = if name.starts_with("eval") { Work::Evaluate { first } } else { Work::Match { first } };
-            return self.one(work, &both, lengths);
+            if name.starts_with("eval") {
+                return self.one(Work::Evaluate { first }, &both, lengths);
+            }
+            self.one(Work::Match { first }, &both, lengths);
+            return self.one(Work::MatchPlace { first }, &both, lengths);
         }
         self.one(Work::Optimise, forms[0], lengths);
         match self.random.below(8) {
@@ -101,7 +105,7 @@ impl Scale {
         let differs = |form: &[u8]| !matches!(self.both.compare(work, form, lengths), Ok(_));
         // Of two forms neither is cut: where the one ends would move.
         let small = match work {
-            Work::Evaluate { .. } | Work::Match { .. } => forms.to_vec(),
+            Work::Evaluate { .. } | Work::Match { .. } | Work::MatchPlace { .. } => forms.to_vec(),
             _ => shrink(forms, differs),
         };
         let after: u64 = self.works.iter().map(|counts| counts.forms).sum();

@@ -1,23 +1,19 @@
--- umlazgrin_match: an answer for each need; what carries weight stands in the laws.
-use Rattle.library.proofs.Reports as laws
-use Rattle.library.proofs.umlazgrin_match.Lts as lts
-use Rattle.library.proofs.umlazgrin_match.Reads as reads
-use Rattle.library.proofs.umlazgrin_match.Statement.{statement}
-use Rattle.library.proofs.umlazgrin_match.Tie as tie
-use Rattle.matcher.proofs.matches.Reads as matches-reads
-use Rattle.refusals.proofs.number_of.Reads as number-of-reads
+-- umlazgrin_match_place: an answer for each need; what carries weight stands in the laws.
 use borrow.Author.Needs.{needs}
+use Rattle.library.proofs.Reports as laws
+use Rattle.library.proofs.umlazgrin_match_place.Statement.{statement}
+use Rattle.library.proofs.umlazgrin_match_place.Tie as tie
 
-pub umlazgrin-match-spec : {M : Type 1} → statement M
-umlazgrin-match-spec =
+pub umlazgrin-match-place-spec : {M : Type 1} → statement M
+umlazgrin-match-place-spec =
     tie.close
     (tie.spec
     (λ c κs. search needs)  -- matches-requires
-    (λ c. search needs)  -- enum-known-e
+    (λ c. search needs)  -- enum-known-answer
     (λ c κs. search needs)  -- number-of-requires
     (λ c. search needs)  -- enum-told
     (λ c. search needs)  -- enum-told-2
-    (λ c. search needs)  -- enum-known-p
+    (λ c. search needs)  -- enum-known-answer-2
     (λ c. search needs)  -- same-length
     (λ c. search needs)  -- same-length-2
     (λ c. search laws.match-refused)  -- returns
