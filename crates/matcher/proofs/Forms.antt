@@ -8,7 +8,7 @@ use Rattle.refusals.specs.declared.Refusal.{Refusal}
 use Rattle.meaning.specs.Meter.{Out, done, stop}
 use Rattle.meaning.specs.Form.{Reading}
 use Rattle.meaning.specs.Match as meaning
-use Rattle.meaning.specs.Outcome.{Outcome, no-match, answered, refused, deliver, ended}
+use Rattle.meaning.specs.Outcome.{no-match, answered, refused, deliver, ended}
 use Rattle.meaning.proofs.Late.{Touched}
 use Rattle.meaning.proofs.Yields.{either-way}
 use Rattle.meaning.proofs.Verdict.{is-matched, is-failed, is-third}
@@ -27,8 +27,8 @@ use Rattle.pattern.specs.declared.Match.the-variants.{Matched, NoMatch, TooMany
 use Rattle.pattern.specs.Bound.{bindingsAt, matchAt, BoundIn as bound-found, MatchOk}
 use Rattle.matcher.specs.declared.Worked.{Worked}
 use Rattle.matcher.specs.declared.Said.the-variants.{Bound, NoMatch as not-matched, TooManyNames as too-many, Stop}
-use Rattle.matcher.specs.Outcome.{worked, parts, joined, delivered, delivering, ending, place-of}
-use Rattle.matcher.specs.Steps.{outcome-of, BoundIn, Shows}
+use Rattle.matcher.specs.Outcome.{worked, parts, joined, delivered, ending, place-of}
+use Rattle.matcher.specs.Steps.{outcome-of, BoundIn, Shows, delivering}
 
 -- ---- matched: two nodes
 

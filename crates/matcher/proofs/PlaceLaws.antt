@@ -1,7 +1,7 @@
 -- A place is a path in 64 bytes: what number they hold, and that it needs no more. Assumes nothing.
 use Prim.Native.Nat.{ℕ, zero, suc, _+_, _-_, _*_, _^_, _≤_, _<_}
-use mathlib.Core.Path.{_≡_, refl, sym, _∙_, ap}
-use mathlib.Core.List.{List, [], _∷_, _++_}
+use mathlib.Core.Path.{_≡_, refl, ap}
+use mathlib.Core.List.{List}
 use mathlib.Core.Bool.{Bool, true, false}
 use native.Mathlib.Nat.{pow-le-pow-right, lt-of-lt-of-le}
 use native.Mathlib.Omega.{arith}
@@ -10,7 +10,7 @@ use lib.ListN.{length, replicate}
 use Rattle.meaning.specs.Limits.{path-limit, place-turns}
 use Rattle.meaning.specs.Number.{number, number-from, onto, bytes-of}
 use Rattle.meaning.specs.Match.{Match, matched, no-match, too-many-names, place, place-bytes}
-use Rattle.meaning.proofs.Tests.{on-bool, leb-yes}
+use Rattle.meaning.proofs.Tests.{leb-yes}
 use Rattle.meaning.proofs.Places.{path-below, path-above}
 use Rattle.paths.proofs.NumberLaws.{number-append, powers}
 use Rattle.paths.proofs.ShortestLaws.{number-bytes-of}

@@ -1,15 +1,14 @@
 -- The way down to the place of a failure: what each call and each return needs. Assumes nothing.
-use Prim.Native.Nat.{ℕ, zero, suc, _+_, _-_, _*_, _^_, _≤_, _<_}
+use Prim.Native.Nat.{ℕ, zero, suc, _+_, _-_, _^_, _≤_, _<_}
 use mathlib.Core.Path.{_≡_, refl, sym, _∙_, ap, ap₂, subst}
-use mathlib.Core.List.{List, [], _∷_, _++_, append-nil, append-assoc}
+use mathlib.Core.List.{List, [], _∷_, _++_, append-nil}
 use mathlib.Core.Bool.{Bool, true, false}
 use native.Mathlib.Omega.{arith}
-use lib.Dec.{leb}
 use lib.ListN.{length, take, drop, replicate, length-append, length-drop, drop-of-length-le}
 use lib.Seq.{take-all}
 use borrow.Rule.Slice.PartMut.{putMid}
-use Rattle.meaning.specs.Tree.{Tree, atom, pair}
-use Rattle.meaning.specs.Limits.{path-limit, place-turns}
+use Rattle.meaning.specs.Tree.{atom, pair}
+use Rattle.meaning.specs.Limits.{place-turns}
 use Rattle.meaning.specs.Number.{number, turns, onto, compose-paths, bytes-of}
 use Rattle.meaning.specs.Match as meaning
 use Rattle.meaning.proofs.Tests.{leb-true, leb-no}
@@ -21,14 +20,14 @@ use Rattle.store.specs.declared.Cell.the-variants.{Pair, Atom}
 use Rattle.store.specs.declared.Charges.{Charges}
 use Rattle.store.specs.Cells.{cellAt, bytesAt, Room}
 use Rattle.store.specs.Nodes.{treeAt}
-use Rattle.store.specs.Store.{Held, Ready}
+use Rattle.store.specs.Store.{Ready}
 use Rattle.store.proofs.Ready as ready
 use Rattle.store.proofs.Trees.{tree-pair}
 use Rattle.pattern.specs.declared.Bindings.{Bindings}
 use Rattle.pattern.specs.declared.Match.{Match}
 use Rattle.pattern.specs.declared.Match.the-variants.{Matched, NoMatch, TooManyNames}
 use Rattle.pattern.specs.Bound.{bindingsAt, Bound, noBindings, matchAt, BoundIn, MatchOk}
-use Rattle.pattern.specs.Cases.{takes-any}
+use Rattle.pattern.specs.Cases.{takes-any, in-parts}
 use Rattle.pattern.proofs.Laws as laws
 use Rattle.pattern.proofs.Trees as trees
 use Rattle.pattern.proofs.Kept as kept
@@ -39,7 +38,7 @@ use Rattle.paths.proofs.ShortestLaws.{held-len}
 use Rattle.matcher.specs.declared.way.Part.{Part}
 use Rattle.matcher.specs.declared.way.Step.{Step}
 use Rattle.matcher.specs.declared.way.Step.the-variants.{Down, Here}
-use Rattle.matcher.specs.Way.{matchOf, in-parts, OnWay, Below, StepOk}
+use Rattle.matcher.specs.Way.{matchOf, OnWay, Below, StepOk}
 use Rattle.matcher.proofs.PlaceLaws.{turns-fit}
 
 -- ---- below: two pairs

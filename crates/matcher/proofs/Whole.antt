@@ -29,8 +29,8 @@ use Rattle.matcher.specs.declared.Said.the-variants.{Bound as bound-to, 
 use Rattle.matcher.specs.declared.MatchAnswer.{MatchAnswer}
 use Rattle.matcher.specs.declared.Matching.{Matching}
 use Rattle.matcher.specs.declared.MatchAnswer.the-variants.{Matched, NoMatch, TooManyNames, Refused}
-use Rattle.matcher.specs.Outcome.{worked, parts, joined, end, delivered, ending, outcome, says-at, says, place-of, placeless, Answers, Matches, Within}
-use Rattle.matcher.specs.Steps.{outcome-of, BoundIn, Shows, placed}
+use Rattle.matcher.specs.Outcome.{worked, parts, joined, end, delivered, ending, outcome, says-at, says, place-of, Matches, Within}
+use Rattle.matcher.specs.Steps.{outcome-of, BoundIn, Shows, placeless, Answers, placed}
 use Rattle.matcher.proofs.Forms.{worked-late}
 use Rattle.matcher.proofs.PlaceLaws.{place-number, place-short}
 

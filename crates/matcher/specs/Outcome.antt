@@ -8,7 +8,7 @@ use Rattle.meaning.specs.Tree.{atom}
 use Rattle.meaning.specs.Meter.{Out, done, stop}
 use Rattle.meaning.specs.Form.{Reading, write}
 use Rattle.meaning.specs.Match as meaning
-use Rattle.meaning.specs.Outcome.{Outcome, plain, no-match, too-many-names, answered, refused, deliver, ended, in-room, Told, values, number, Delivers, Settles}
+use Rattle.meaning.specs.Outcome.{Outcome, plain, no-match, too-many-names, answered, refused, deliver, ended, in-room, Told, values, number, Settles}
 use Rattle.form.specs.Both.{read-both}
 use Rattle.matcher.specs.declared.Parts.{Parts}
 use Rattle.matcher.specs.declared.MatchAnswer.{MatchAnswer}
@@ -46,12 +46,7 @@ delivered out-length (meaning.matched ks) = deliver out-length (joined (parts ks
 delivered out-length (meaning.no-match ds) = answered [] no-match (meaning.place-bytes (meaning.place (meaning.no-match ds)))
 delivered out-length meaning.too-many-names = answered [] too-many-names []
 
--- what comes of a match, with so many bytes of output
-unfoldable pub delivering : meaning.Match → ℕ → Outcome
-unfolding delivered
-delivering m out-length = delivered out-length m
-
--- and of the two forms
+-- what comes of the two forms, with so many bytes of output
 unfoldable pub ending : List ℕ → List ℕ → ℕ → Outcome
 unfolding worked delivered ended
 ending pattern expression out-length = ended (λ m s. delivered out-length m) (worked pattern expression)
@@ -80,14 +75,6 @@ place-of (answered bytes plain ns) = meaning.place-bytes 0
 place-of (answered bytes no-match ns) = ns
 place-of (answered bytes too-many-names ns) = meaning.place-bytes 0
 place-of (refused n) = meaning.place-bytes 0
-
--- an outcome that has no place
-unfoldable pub placeless : Outcome → List ℕ → Outcome
-placeless o place = o
-
--- a result is delivered, the room aside, whatever the place beside it
-pub record Answers (o : List ℕ → Outcome) (w w′ : List ℕ) (a : MatchAnswer) : Type 0 where
-  pub at : (place : List ℕ) → Delivers (says-at place) (o place) w w′ a
 
 -- the promise of `matches`: the answer, every lent byte, and the place
 pub record Matches (o : Outcome) (s s′ w w′ : List ℕ) (m : Matching) : Type 0 where

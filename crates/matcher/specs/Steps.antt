@@ -6,8 +6,9 @@ use mathlib.Core.Bool.{true, false}
 use lib.Dec.{leb}
 use lib.ListN.{length}
 use Rattle.meaning.specs.Match as meaning
-use Rattle.meaning.specs.Outcome.{Outcome, no-match, too-many-names, answered, refused}
+use Rattle.meaning.specs.Outcome.{Outcome, no-match, too-many-names, answered, refused, Delivers}
 use Rattle.pattern.specs.Bound.{bindingsAt, Bound}
+use Rattle.matcher.specs.declared.MatchAnswer.{MatchAnswer}
 use Rattle.matcher.specs.declared.Worked.{Worked}
 use Rattle.matcher.specs.declared.Said.{Said}
 use Rattle.matcher.specs.declared.Said.the-variants.{Bound as bound-to, NoMatch, TooManyNames, Stop}
@@ -15,7 +16,7 @@ use Rattle.matcher.specs.declared.Ends.{Ends}
 use Rattle.matcher.specs.declared.Ends.the-variants.{At, Over as ends-over}
 use Rattle.matcher.specs.declared.Placed.{Placed}
 use Rattle.matcher.specs.declared.Placed.the-variants.{All, Over}
-use Rattle.matcher.specs.Outcome.{parts, joined, end, delivered, place-of}
+use Rattle.matcher.specs.Outcome.{parts, joined, end, delivered, says-at, place-of}
 
 -- what comes of work, as the store shows it, with a place beside it
 unfoldable pub outcome-of : List ℕ → List ℕ → ℕ → Said → List ℕ → Outcome
@@ -37,6 +38,19 @@ pub record Shows (f s : List ℕ) (comes : ℕ → Outcome) (w : Worked) : Type 
   pub is : (n : ℕ) → comes n ≡ outcome-of f s n (w .said) (w .place)
   pub place : (n : ℕ) → w .place ≡ place-of (comes n)
   pub bound : BoundIn f s (w .said)
+
+-- what comes of a match, with so many bytes of output
+unfoldable pub delivering : meaning.Match → ℕ → Outcome
+unfolding delivered
+delivering m out-length = delivered out-length m
+
+-- an outcome that has no place
+unfoldable pub placeless : Outcome → List ℕ → Outcome
+placeless o place = o
+
+-- a result is delivered, the room aside, whatever the place beside it
+pub record Answers (o : List ℕ → Outcome) (w w′ : List ℕ) (a : MatchAnswer) : Type 0 where
+  pub at : (place : List ℕ) → Delivers (says-at place) (o place) w w′ a
 
 -- where a and then b bytes end that stand from at on, where a limit allows them
 unfoldable pub ends : ℕ → ℕ → ℕ → ℕ → Ends

@@ -2,8 +2,7 @@
 use Prim.Native.Nat.{ℕ}
 use mathlib.Core.Path.{_≡_}
 use mathlib.Core.List.{List, [], _∷_}
-use mathlib.Core.Bool.{Bool, true, false}
-use Rattle.meaning.specs.Tree.{Tree}
+use mathlib.Core.Bool.{Bool}
 use Rattle.meaning.specs.Number.{onto}
 use Rattle.meaning.specs.Match as meaning
 use Rattle.store.specs.declared.Charges.{Charges}
@@ -18,10 +17,6 @@ use Rattle.matcher.specs.declared.way.Step.the-variants.{Down, Here}
 unfoldable pub matchOf : List ℕ → List ℕ → Part → meaning.Match
 unfolding meaning.match-sexp
 matchOf f s w = meaning.match-sexp (treeAt f s (w .pattern)) (treeAt f s (w .node)) (bindingsAt f s (w .ks))
-
--- two pairs, matched part by part
-abbrev pub in-parts : (a b l r : Tree) → List meaning.Binding → meaning.Match
-in-parts a b l r ks = meaning._and-then_ (meaning.in-part false (meaning.match-sexp a l ks)) (λ js. meaning.in-part true (meaning.match-sexp b r js))
 
 -- it is of nodes, and it fails
 pub record OnWay (f s : List ℕ) (c : Charges) (w : Part) : Type 0 where

@@ -19,8 +19,8 @@ ghost use Rattle.store.specs.Nodes.{treeAt, tree-in};
 ghost use Rattle.store.specs.Store.{Ready};
 ghost use Rattle.form.specs.Writes.{Writable, Wrote, extent};
 ghost use Rattle.pattern.specs.Bound.{bindingsAt, Bound};
-ghost use Rattle.matcher.specs.Outcome.{parts, joined, delivered, delivering, ending, outcome, placeless, Answers, Matches};
-ghost use Rattle.matcher.specs.Steps.{outcome-of, BoundIn, Shows, ends, placed};
+ghost use Rattle.matcher.specs.Outcome.{parts, joined, delivered, ending, outcome, Matches};
+ghost use Rattle.matcher.specs.Steps.{outcome-of, BoundIn, Shows, delivering, placeless, Answers, ends, placed};
 
 // How many names were bound, and where each part that was written ends; a part that is not there has no bytes.
 pub struct Parts {

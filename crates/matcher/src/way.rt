@@ -14,11 +14,12 @@ ghost use Rattle.paths.specs.Wide.{Holds};
 ghost use Rattle.store.specs.Nodes.{treeAt, tree-in};
 ghost use Rattle.store.specs.Store.{Ready};
 ghost use Rattle.pattern.specs.Bound.{bindingsAt};
+ghost use Rattle.pattern.specs.Cases.{in-parts};
 ghost use Rattle.matcher.specs.declared.way.Step.the-variants.{Down};
-ghost use Rattle.matcher.specs.Way.{matchOf, in-parts, OnWay, StepOk};
+ghost use Rattle.matcher.specs.Way.{matchOf, OnWay, StepOk};
 
 // Nodes of the pattern and of the expression that stand against each other, what is bound before them, and the turn that led to them, as
-// a path: 2 is left, 3 is right.
+// a path: 2 is left, 3 is right, and 1 is none.
 pub(crate) struct Part {
     pub(crate) pattern: usize,
     pub(crate) node: usize,

@@ -1,18 +1,17 @@
 -- The place of a match that fails: what stands there, where the walk goes no further, and how many turns 64 bytes hold. Assumes nothing.
-use Prim.Native.Nat.{ℕ, zero, suc, _+_, _*_, _^_, _≤_, _<_}
-use mathlib.Core.Path.{_≡_, refl, sym, _∙_, ap, subst}
-use mathlib.Core.List.{List, [], _∷_, _++_, append-nil}
+use Prim.Native.Nat.{ℕ, suc, _^_, _≤_, _<_}
+use mathlib.Core.Path.{_≡_, refl, _∙_, ap, subst}
+use mathlib.Core.List.{List, [], _∷_, append-nil}
 use mathlib.Core.Bool.{Bool, true, false, _&&_, not}
 use mathlib.Core.Option.{Option, none, some}
 use native.Mathlib.Nat.{pow-succ'}
 use native.Mathlib.Omega.{arith}
 use lib.Dec.{leb}
-use lib.ListN.{length, length-append}
+use lib.ListN.{length}
 use Rattle.meaning.specs.Tree.{Tree, atom, pair, same-bytes, equal-to, is-byte}
 use Rattle.meaning.specs.Limits.{place-turns}
 use Rattle.meaning.specs.Number.{turns, follow, lookup, onto}
-use Rattle.meaning.specs.Match.{Match, Binding, matched, no-match, too-many-names, atom-match, sexp-match, get, insert, unify-bindings, at-atom, _and-then_, in-part, match-sexp, Verdict, yes, no, third-name, verdict, place}
-use Rattle.meaning.proofs.Tests.{leb-yes, leb-true, leb-no}
+use Rattle.meaning.specs.Match.{Match, Binding, matched, no-match, too-many-names, atom-match, sexp-match, get, insert, unify-bindings, at-atom, _and-then_, in-part, match-sexp, no, verdict, place}
 use Rattle.meaning.proofs.Yields.{either-way}
 use Rattle.meaning.proofs.Verdict.{IsNo}
 use Rattle.meaning.proofs.PathLaws.{onto-pos, turns-onto, lookup-turns}

@@ -24,7 +24,7 @@ use Rattle.pattern.specs.declared.Match.the-variants.{Matched, NoMatch, 
 use Rattle.pattern.specs.declared.Got.{Got}
 use Rattle.pattern.specs.declared.Got.the-variants.{At, Nothing}
 use Rattle.pattern.specs.Bound.{bindingAt, bindingsAt, Named, Bound, noBindings, inserted, matchAt, BoundIn, MatchOk, gotAt, GotIn, GotOk}
-use Rattle.pattern.specs.Cases.{takes-any}
+use Rattle.pattern.specs.Cases.{takes-any, in-parts}
 use Rattle.pattern.proofs.Trees as trees
 use Rattle.pattern.proofs.Kept as kept
 
@@ -246,7 +246,7 @@ module _ (f s : List ℕ) (c : Charges) (p n a b l r : ℕ) (ks : Bindings) (q q
       let t : true ≡ takes-any (treeAt f s a) (atom (bytesAt f s b)) = rw (kept.name-tree nb) at (sym d ∙ eu) in
       rw (tree-pair f s p a b (sym eq ∙ ep), kept.name-tree nb, tree-pair f s n l r (sym eq′ ∙ ep′)) (trees.pair-any (treeAt f s a) (bytesAt f s b) (treeAt f s l) (treeAt f s r) (bindingsAt f s ks) t)
 
-  parts-are : (u : Bool) → u ≡ takes-any (treeAt f s a) (treeAt f s b) → u ≡ false → trees.in-parts (treeAt f s a) (treeAt f s b) (treeAt f s l) (treeAt f s r) (bindingsAt f s ks) ≡ Whole
+  parts-are : (u : Bool) → u ≡ takes-any (treeAt f s a) (treeAt f s b) → u ≡ false → in-parts (treeAt f s a) (treeAt f s b) (treeAt f s l) (treeAt f s r) (bindingsAt f s ks) ≡ Whole
   parts-are u eu d = rw (tree-pair f s p a b (sym eq ∙ ep), tree-pair f s n l r (sym eq′ ∙ ep′)) (trees.pair-parts (treeAt f s a) (treeAt f s b) (treeAt f s l) (treeAt f s r) (bindingsAt f s ks) (sym d ∙ eu))
 
 module _ {f s s₁ : List ℕ} {c : Charges} {p n a b l r : ℕ} {ks : Bindings} {x : Match} {q q′ : Cell} {u : Bool} where

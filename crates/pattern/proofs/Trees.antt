@@ -7,7 +7,7 @@ use native.Mathlib.Omega.{arith}
 use Rattle.meaning.specs.Tree.{Tree, atom, pair, is-byte, same-bytes}
 use Rattle.meaning.specs.Match.{Match, matched, no-match, too-many-names, Binding, atom-match, sexp-match, match-sexp, at-atom, unify-bindings, _and-then_, in-part}
 use Rattle.sexp.specs.Tests.{is-byte-tree}
-use Rattle.pattern.specs.Cases.{takes-any}
+use Rattle.pattern.specs.Cases.{takes-any, in-parts}
 
 -- ---- takes-any
 
@@ -99,10 +99,6 @@ pub pair-any : (x : Tree) (b : List ℕ) (l r : Tree) (ks : List Binding) → tr
 unfolding takes-any match-sexp
 pair-any (atom a) b l r ks e = rw (← e, match-sexp)
 pair-any (pair c d) b l r ks e = let z : _≡_ {A = ℕ} 0 1 = cc in absurd (omega arith)
-
--- part by part
-abbrev pub in-parts : (x y l r : Tree) → List Binding → Match
-in-parts x y l r ks = in-part false (match-sexp x l ks) and-then λ js. in-part true (match-sexp y r js)
 
 pub pair-parts : (x y l r : Tree) (ks : List Binding) → false ≡ takes-any x y → in-parts x y l r ks ≡ match-sexp (pair x y) (pair l r) ks
 unfolding takes-any match-sexp
