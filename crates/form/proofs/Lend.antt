@@ -23,7 +23,7 @@ module _ (xs : List ℕ) (a : ℕ) where
   pub lent-length : length (lent xs a) ≡ length xs - a
   lent-length = ap (λ (l : List ℕ). length l) lent-is ∙ length-drop a xs
 
-  back-is : (ys : List ℕ) → back xs a ys ≡ take a xs ++ ys
+  pub back-is : (ys : List ℕ) → back xs a ys ≡ take a xs ++ ys
   back-is ys =
       ap (λ (z : List ℕ). take a xs ++ (ys ++ z)) (drop-of-length-le (drop a xs) {i = length xs - a} (simp length-drop (omega arith)))
       ∙ ap (λ (z : List ℕ). take a xs ++ z) (append-nil ys)

@@ -17,6 +17,7 @@ use Rattle.meaning.specs.Match as meaning
 use Rattle.refusals.specs.Numbers.{number-of}
 use Rattle.meaning.specs.Outcome.{Outcome, plain, no-match, too-many-names, answered, refused}
 use Rattle.meaning.proofs.Tests.{on-bool}
+use Rattle.meaning.proofs.Verdict.{in-part-keeps}
 use Rattle.meaning.proofs.ReadWrite.{form-read}
 use Rattle.meaning.proofs.Yields.{either-way}
 use Rattle.form.specs.Both.{Both, read-both}
@@ -68,15 +69,9 @@ at-atom-few a b s ks h hs =
     (either-way IfMatched (is-byte meaning.sexp-match a) _ _
     (either-way IfMatched (is-byte meaning.sexp-match b && is-byte meaning.sexp-match s) _ _ tt (unify-few ks b (atom s) h hs)) tt)
 
-few-part : (d : Bool) (m : meaning.Match) → IfMatched m → IfMatched (meaning.in-part d m)
-unfolding meaning.in-part IfMatched
-few-part d (meaning.matched ks) h = h
-few-part d (meaning.no-match ds) h = tt
-few-part d meaning.too-many-names h = tt
-
 then-few : (m : meaning.Match) (f : List meaning.Binding → meaning.Match) → IfMatched m → ((ks : List meaning.Binding) → Few ks → IfMatched (f ks)) → IfMatched (meaning._and-then_ (meaning.in-part false m) (λ ks. meaning.in-part true (f ks)))
 unfolding meaning._and-then_ meaning.in-part IfMatched
-then-few (meaning.matched ks) f h k = few-part true (f ks) (k ks h)
+then-few (meaning.matched ks) f h k = in-part-keeps IfMatched (λ ds es i. tt) true (f ks) (k ks h)
 then-few (meaning.no-match ds) f h k = tt
 then-few meaning.too-many-names f h k = tt
 

@@ -1,25 +1,23 @@
 -- A place is a path in 64 bytes: what number they hold, and that it needs no more. Assumes nothing.
-use Prim.Native.Nat.{ℕ, zero, suc, _+_, _-_, _*_, _^_, _≤_, _<_}
-use mathlib.Core.Path.{_≡_, refl, ap}
+use Prim.Native.Nat.{ℕ, suc, _+_, _-_, _*_, _^_, _≤_, _<_}
+use mathlib.Core.Path.{_≡_, refl, sym, _∙_, ap}
 use mathlib.Core.List.{List}
 use mathlib.Core.Bool.{Bool, true, false}
 use native.Mathlib.Nat.{pow-le-pow-right, lt-of-lt-of-le}
 use native.Mathlib.Omega.{arith}
 use lib.Dec.{leb}
-use lib.ListN.{length, replicate}
+use lib.ListN.{length, replicate, length-replicate}
 use Rattle.meaning.specs.Limits.{path-limit, place-turns}
-use Rattle.meaning.specs.Number.{number, number-from, onto, bytes-of}
+use Rattle.meaning.specs.Number.{number, onto, bytes-of}
 use Rattle.meaning.specs.Match.{Match, matched, no-match, too-many-names, place, place-bytes}
 use Rattle.meaning.proofs.Tests.{leb-yes}
 use Rattle.meaning.proofs.Places.{path-below, path-above}
-use Rattle.paths.proofs.NumberLaws.{number-append, powers}
+use Rattle.paths.proofs.NumberLaws.{number-append, upto-all, upto-zeros, powers}
 use Rattle.paths.proofs.ShortestLaws.{number-bytes-of}
 use Rattle.paths.proofs.SizeLaws.{short-bytes, long-bytes}
 
 number-zeros : (k : ℕ) → number (replicate k 0) ≡ 0
-unfolding number number-from
-number-zeros zero = refl
-number-zeros (suc k) = number-zeros k
+number-zeros k = sym (upto-all (replicate k 0) k (length-replicate k 0)) ∙ upto-zeros k k
 
 -- the 64 bytes hold the number
 pub place-number : (n : ℕ) → number (place-bytes n) ≡ n

@@ -6,7 +6,6 @@ use mathlib.Core.Bool.{Bool, true, false}
 use native.Mathlib.Omega.{arith}
 use lib.ListN.{length, take, drop, replicate, length-append, length-drop, drop-of-length-le}
 use lib.Seq.{take-all}
-use borrow.Rule.Slice.PartMut.{putMid}
 use Rattle.meaning.specs.Tree.{atom, pair}
 use Rattle.meaning.specs.Limits.{place-turns}
 use Rattle.meaning.specs.Number.{number, turns, onto, compose-paths, bytes-of}
@@ -23,6 +22,7 @@ use Rattle.store.specs.Nodes.{treeAt}
 use Rattle.store.specs.Store.{Ready}
 use Rattle.store.proofs.Ready as ready
 use Rattle.store.proofs.Trees.{tree-pair}
+use Rattle.form.proofs.Lend.{lent, back, lent-length, back-is}
 use Rattle.pattern.specs.declared.Bindings.{Bindings}
 use Rattle.pattern.specs.declared.Match.{Match}
 use Rattle.pattern.specs.declared.Match.the-variants.{Matched, NoMatch, TooManyNames}
@@ -168,12 +168,12 @@ module _ (p : Number) (h : Holds (number (p .bytes)) p) (l : number (p .bytes) <
   pub path-short : p .len ≤ 64
   path-short = let a : length (bytes-of (number (p .bytes))) ≤ 64 = short-bytes (number (p .bytes)) 64 l in let b : p .len ≡ length (bytes-of (number (p .bytes))) = held-len h in omega arith
 
-  -- the path's shortest bytes, and the part of 64 bytes that they go to
+  -- the path's shortest bytes, and the 64 bytes to whose end they go
   abbrev src : List ℕ
   src = take (65 - (65 - p .len)) (drop (65 - p .len) (p .bytes))
 
-  abbrev part : List ℕ → List ℕ
-  part zs = take (64 - (64 - p .len)) (drop (64 - p .len) zs)
+  abbrev zeros : List ℕ
+  zeros = replicate 64 0
 
   src-is : src ≡ bytes-of (number (p .bytes))
   src-is =
@@ -184,27 +184,19 @@ module _ (p : Number) (h : Holds (number (p .bytes)) p) (l : number (p .bytes) <
   src-long : length src ≡ p .len
   src-long = ap length src-is ∙ sym (held-len h)
 
-  part-is : (zs : List ℕ) → length zs ≡ 64 → part zs ≡ drop (64 - p .len) zs
-  part-is zs z = let a : length (drop (64 - p .len) zs) ≡ length zs - (64 - p .len) = length-drop (64 - p .len) zs in take-all (64 - (64 - p .len)) (drop (64 - p .len) zs) (omega arith)
+  pub copy-fits : length src ≤ length (lent zeros (64 - p .len))
+  copy-fits = let a : length (lent zeros (64 - p .len)) ≡ 64 - (64 - p .len) = lent-length zeros (64 - p .len) in let b = src-long in let d = path-short in omega arith
 
-  pub copy-fits : (zs : List ℕ) → length zs ≡ 64 → length src ≤ length (part zs)
-  copy-fits zs z =
-      let a : length (part zs) ≡ length zs - (64 - p .len) = ap length (part-is zs z) ∙ length-drop (64 - p .len) zs in
-      let b = src-long in
-      let d = path-short in
-      omega arith
-
-  pub path-placed : (zs ys : List ℕ) → zs ≡ replicate {A = ℕ} 64 0 → ys ≡ src ++ drop (length src) (part zs) → putMid (64 - p .len) (64 - (64 - p .len)) zs ys ≡ meaning.place-bytes (number (p .bytes))
+  pub path-placed : (ys : List ℕ) → ys ≡ src ++ drop (length src) (lent zeros (64 - p .len)) → back zeros (64 - p .len) ys ≡ meaning.place-bytes (number (p .bytes))
   unfolding meaning.place-bytes
-  path-placed zs ys z e =
-      let n : length zs ≡ 64 = ap length z in
+  path-placed ys e =
       let k = path-short in
-      let g : length (drop (64 - p .len) zs) ≡ length zs - (64 - p .len) = length-drop (64 - p .len) zs in
-      let a : drop (length src) (part zs) ≡ [] = let i = src-long in let j : length (part zs) ≡ length zs - (64 - p .len) = ap length (part-is zs n) ∙ g in drop-of-length-le (part zs) {i = length src} (omega arith) in
-      let b : drop (64 - (64 - p .len)) (drop (64 - p .len) zs) ≡ [] = drop-of-length-le (drop (64 - p .len) zs) {i = 64 - (64 - p .len)} (omega arith) in
-      let c : take (64 - p .len) zs ≡ replicate (64 - p .len) 0 = ap (take (64 - p .len)) z ∙ zeros-front 0 (64 - p .len) 64 (omega arith) in
+      let i = src-long in
+      let j : length (lent zeros (64 - p .len)) ≡ 64 - (64 - p .len) = lent-length zeros (64 - p .len) in
+      let a : drop (length src) (lent zeros (64 - p .len)) ≡ [] = drop-of-length-le (lent zeros (64 - p .len)) {i = length src} (omega arith) in
+      let c : take (64 - p .len) zeros ≡ replicate (64 - p .len) 0 = zeros-front 0 (64 - p .len) 64 (omega arith) in
       let y : ys ≡ bytes-of (number (p .bytes)) = e ∙ ap (src ++_) a ∙ append-nil src ∙ src-is in
-      ap₂ (λ x w. x ++ (ys ++ w)) c b ∙ ap (replicate (64 - p .len) 0 ++_) (append-nil ys ∙ y) ∙ ap (λ m. replicate (64 - m) 0 ++ bytes-of (number (p .bytes))) (held-len h)
+      back-is zeros (64 - p .len) ys ∙ ap₂ _++_ c y ∙ ap (λ m. replicate (64 - m) 0 ++ bytes-of (number (p .bytes))) (held-len h)
 
 -- ---- place_node
 

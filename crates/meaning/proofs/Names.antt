@@ -10,6 +10,7 @@ use Rattle.meaning.specs.Tree.{Tree, atom, pair, same-bytes, equal-to, i
 use Rattle.meaning.specs.Match.{Match, Binding, matched, no-match, too-many-names, atom-match, sexp-match, get, insert, unify-bindings, at-atom, _and-then_, in-part, match-sexp}
 use Rattle.meaning.specs.Substitute.{cons-pattern}
 use Rattle.meaning.specs.Rules.{cons-optimizer-pattern, apply-pattern, atom-pattern, quote-pattern-1, apply-null-pattern-1}
+use Rattle.meaning.proofs.Verdict.{in-part-keeps}
 
 -- how many names a pattern has at most: a pair of two atoms may be one
 unfoldable pub names : Tree → ℕ
@@ -28,19 +29,13 @@ few-if : (n : ℕ) (b : Bool) (m k : Match) → Few n m → Few n k → Few n (e
 few-if n true m k f g = f
 few-if n false m k f g = g
 
-few-part : (n : ℕ) (d : Bool) (m : Match) → Few n m → Few n (in-part d m)
-unfolding Few in-part
-few-part n d (matched ks) h = h
-few-part n d (no-match ds) h = tt
-few-part n d too-many-names h = h
-
 few-both : (n k : ℕ) (p l q r : Tree) (ks : List Binding) → Few n (match-sexp p l ks) → ((js : List Binding) → length js ≤ n → Few k (match-sexp q r js))
     → Few k (in-part false (match-sexp p l ks) and-then λ js. in-part true (match-sexp q r js))
 unfolding Few _and-then_ in-part
 few-both n k p l q r ks f g = go (match-sexp p l ks) f
   where
     go : (m : Match) → Few n m → Few k (in-part false m and-then λ js. in-part true (match-sexp q r js))
-    go (matched js) h = few-part k true (match-sexp q r js) (g js h)
+    go (matched js) h = in-part-keeps (Few k) (λ ds es i. tt) true (match-sexp q r js) (g js h)
     go (no-match ds) h = tt
     go too-many-names h = absurd h
 

@@ -7,6 +7,7 @@ use Rattle.meaning.specs.Tree.{Tree, atom, pair, enlist, same-bytes, equ
 use Rattle.meaning.specs.Match.{Binding, Match, matched, no-match, too-many-names, atom-match, sexp-match, get, insert, unify-bindings, at-atom, _and-then_, in-part, match-sexp, got}
 use Rattle.meaning.specs.Substitute.{sub-turns, first-name, rest-name, cons-pattern, or-else, cons-f, cons-r, path-from-args, is-proper, sub-args, sub-each}
 use Rattle.meaning.specs.Form.{Narrow}
+use Rattle.meaning.proofs.Verdict.{in-part-keeps}
 use Rattle.meaning.proofs.Atoms.{narrow-nil, narrow-byte}
 use Rattle.meaning.proofs.Yields.{Every, IfSome, either-way}
 
@@ -50,15 +51,9 @@ at-atom-narrow a b s ks h hs =
     (either-way IfMatched (is-byte sexp-match a) _ _
     (either-way IfMatched (is-byte sexp-match b && is-byte sexp-match s) _ _ tt (unify-narrow ks b (atom s) h hs)) tt)
 
-part-narrow : (d : Bool) (m : Match) → IfMatched m → IfMatched (in-part d m)
-unfolding in-part IfMatched
-part-narrow d (matched ks) h = h
-part-narrow d (no-match ds) h = tt
-part-narrow d too-many-names h = tt
-
 and-then-narrow : (m : Match) (f : List Binding → Match) → IfMatched m → ((ks : List Binding) → Every NodeNarrow ks → IfMatched (f ks)) → IfMatched (in-part false m and-then λ ks. in-part true (f ks))
 unfolding _and-then_ in-part IfMatched
-and-then-narrow (matched ks) f h k = part-narrow true (f ks) (k ks h)
+and-then-narrow (matched ks) f h k = in-part-keeps IfMatched (λ ds es i. tt) true (f ks) (k ks h)
 and-then-narrow (no-match ds) f h k = tt
 and-then-narrow too-many-names f h k = tt
 

@@ -48,6 +48,13 @@ in-part-verdict d (matched ks) = refl
 in-part-verdict d (no-match ds) = refl
 in-part-verdict d too-many-names = refl
 
+-- what holds of a part's match holds of it inside the whole, where it says nothing of a failure's turns
+pub in-part-keeps : (P : Match → Type 0) → ((ds es : List Bool) → P (no-match ds) → P (no-match es)) → (d : Bool) (m : Match) → P m → P (in-part d m)
+unfolding in-part
+in-part-keeps P k d (matched ks) h = h
+in-part-keeps P k d (no-match ds) h = k ds (d ∷ ds) h
+in-part-keeps P k d too-many-names h = h
+
 -- ---- match_sexp with verdicts alone
 
 unfoldable pub plain-insert : Binding → List Binding → Verdict

@@ -1,6 +1,4 @@
 -- in_64: zeros, and after them the path's shortest bytes.
-use mathlib.Core.Path.{refl}
-use lib.ListN.{replicate}
 use borrow.Author.Needs.{needs}
 use Rattle.matcher.proofs.WayLaws as laws
 use Rattle.matcher.proofs.way.in_64.Statement.{statement}
@@ -18,5 +16,5 @@ in-64-spec =
     (λ c. search needs)  -- sub-copy-2
     (λ c. search needs)  -- part-r-start
     (λ c. search needs)  -- part-r-end
-    (λ c κs. laws.copy-fits (c .before .before .before .before .before .before .args .path) (search needs) (search needs) _ refl)  -- copy-requires
-    (λ c. laws.path-placed (c .before .before .before .before .before .before .before .before .args .path) (search needs) (search needs) (replicate 64 0) (c .before .copy .last .1 .0) refl (c .before .copy .ensures)))  -- returns
+    (λ c κs. laws.copy-fits (c .before .before .before .before .before .before .args .path) (search needs) (search needs))  -- copy-requires
+    (λ c. laws.path-placed (c .before .before .before .before .before .before .before .before .args .path) (search needs) (search needs) (c .before .copy .last .1 .0) (c .before .copy .ensures)))  -- returns
