@@ -1,6 +1,8 @@
-"""Small trees from text: lists, dots, decimal bytes, 0x atoms, `$`, `:` and the operators' names."""
+"""Small trees from text: lists, dots, decimal bytes, 0x atoms, `$`, `:` and the operators' names. And which forms are not the shortest."""
 import re
 
+# The least first byte of each kind of prefix, of none to four bytes more, and of those that are not carried.
+KINDS = [0x80, 0xc0, 0xe0, 0xf0, 0xf8, 0xfc]
 NAMES = {name: bytes([code]) for code, name in enumerate("q a i c f r l x =".split(), 1)}
 
 
@@ -55,6 +57,30 @@ def form(text):
             inner = b"\xff" + atom(NAMES[name]) + b"\xff" + inner + b"\x80"
         return inner.hex()
     return tree(words_of(text)).hex()
+
+
+def spare(form):
+    """Whether a reader of the form, in hex, comes to an atom that has a shorter spelling, before any fault."""
+    form, at, wanted = bytes.fromhex(form), 0, 1
+    while wanted > 0 and at < len(form):
+        first, at = form[at], at + 1
+        wanted += 1 if first == 0xff else -1
+        if first < 0x80 or first == 0xff:
+            continue
+        # How many bytes of the length follow; of `fc`, `fd` and `fe` none are carried.
+        more = sum(first >= kind for kind in KINDS) - 1
+        stated = form[at:at + more]
+        if more == len(KINDS) - 1 or len(stated) < more:
+            return False
+        length, at = int.from_bytes(bytes([first - KINDS[more]]) + stated, "big"), at + more
+        if more > 0 and length < 1 << 7 * more - 1:
+            return True
+        body, at = form[at:at + length], at + length
+        if length > 64 or len(body) < length:
+            return False
+        if length == 1 and body[0] < 0x80:
+            return True
+    return False
 
 
 def words_of(text):

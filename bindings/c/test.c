@@ -188,6 +188,47 @@ static void check_and_write(void) {
     expect(w.length == 5 && w.units == 26 && !memcmp(out, first_of_one, 5) && all(out + 5, sizeof out - 5, 0x5a));
 }
 
+/* Lengths may have spare bytes; what is written is the shortest form, so as much output is enough. */
+static void spare_bytes(void) {
+    const uint8_t form[] = {0xff, 0x81, 0x05, 0xff, 0xc0, 0x01, 0x01, 0xe0, 0x00, 0x00};
+    struct umlazgrin_checked c = {7};
+    struct umlazgrin_written w = {7, 7};
+    struct umlazgrin_optimised o = {7, 7, 7, 7};
+    fill();
+    expect(umlazgrin_check(form, sizeof form, room, UMLAZGRIN_ROOM, &c) == UMLAZGRIN_ANSWERED && c.units == 26);
+    expect(umlazgrin_write(form, sizeof form, room, UMLAZGRIN_ROOM, out, 4, &w) == UMLAZGRIN_OUTPUT_SHORT && w.length == 7);
+    expect(all(out, sizeof out, 0x5a) && cleared(UMLAZGRIN_ROOM));
+    expect(umlazgrin_write(form, sizeof form, room, UMLAZGRIN_ROOM, out, 5, &w) == UMLAZGRIN_ANSWERED && w.length == 5 && w.units == 26);
+    expect(!memcmp(out, first_of_one, 5) && all(out + 5, sizeof out - 5, 0x5a) && cleared(UMLAZGRIN_ROOM));
+    expect(umlazgrin_optimise(form, sizeof form, room, UMLAZGRIN_ROOM, out, sizeof out, &o) == UMLAZGRIN_ANSWERED);
+    expect(o.length == 1 && o.passes == 1 && o.units == 31 && o.mark == 0 && out[0] == 2);
+}
+
+/* At one atom: missing prefix bytes 3, then fc, fd and fe 4, then over 64 bytes 5, then a missing body 3. */
+static void prefixes(void) {
+    static const struct { size_t length, number, units; uint8_t form[6]; } atoms[] = {
+        {2, UMLAZGRIN_ANSWERED, 5, {0x81, 0x05}},
+        {3, UMLAZGRIN_ANSWERED, 5, {0xc0, 0x01, 0x05}},
+        {6, UMLAZGRIN_ANSWERED, 5, {0xf8, 0x00, 0x00, 0x00, 0x01, 0x05}},
+        {2, UMLAZGRIN_ANSWERED, 0, {0xc0, 0x00}},
+        {5, UMLAZGRIN_ANSWERED, 0, {0xf8, 0x00, 0x00, 0x00, 0x00}},
+        {1, UMLAZGRIN_ENDS_EARLY, 7, {0xc0}},
+        {4, UMLAZGRIN_ENDS_EARLY, 7, {0xfb, 0xff, 0xff, 0xff}},
+        {1, UMLAZGRIN_BAD_PREFIX, 7, {0xfc}},
+        {2, UMLAZGRIN_BAD_PREFIX, 7, {0xfd, 0x05}},
+        {2, UMLAZGRIN_BAD_PREFIX, 7, {0xfe, 0xff}},
+        {2, UMLAZGRIN_ATOM_LONG, 7, {0xc0, 0x41}},
+        {5, UMLAZGRIN_ATOM_LONG, 7, {0xfb, 0xff, 0xff, 0xff, 0xff}},
+        {1, UMLAZGRIN_ENDS_EARLY, 7, {0x81}},
+        {3, UMLAZGRIN_ENDS_EARLY, 7, {0xe0, 0x00, 0x40}},
+    };
+    for (size_t i = 0; i < sizeof atoms / sizeof *atoms; i++) {
+        struct umlazgrin_checked c = {7};
+        expect(umlazgrin_check(atoms[i].form, atoms[i].length, room, UMLAZGRIN_ROOM, &c) == atoms[i].number);
+        expect(c.units == atoms[i].units);
+    }
+}
+
 int main(void) {
     optimise();
     short_lengths();
@@ -199,6 +240,8 @@ int main(void) {
     deep_places();
     no_place();
     check_and_write();
+    spare_bytes();
+    prefixes();
     printf("C: %u facts, %u failed\n", tried, failed);
     return failed ? EXIT_FAILURE : EXIT_SUCCESS;
 }

@@ -220,16 +220,23 @@ static void environments(void) {
 
 static void forms_refused(void) {
     static uint8_t form[UMLAZGRIN_FORM + 1] = {0xc0, 0x41};
-    const uint8_t spare[] = {0x81, 0x05}, two[] = {0x05, 0x05};
+    const uint8_t bad[] = {0xfc}, two[] = {0x05, 0x05};
     expect(write_text(form, sizeof form, sizeof out) == UMLAZGRIN_FORM_LONG && left());
     expect(write_text(form, 67, sizeof out) == UMLAZGRIN_ATOM_LONG && left());
     expect(write_text(NULL, 0, sizeof out) == UMLAZGRIN_ENDS_EARLY && left());
-    expect(write_text(spare, 2, sizeof out) == UMLAZGRIN_BAD_PREFIX && left());
+    expect(write_text(bad, 1, sizeof out) == UMLAZGRIN_BAD_PREFIX && left());
     expect(write_text(two, 2, sizeof out) == UMLAZGRIN_BYTES_AFTER && left());
     memset(form, 0x05, sizeof form);
     for (size_t i = 0; i < 2521; i++) form[2 * i] = 0xff;
     form[2 * 2521] = 0x80;
     expect(write_text(form, 2 * 2521 + 1, sizeof out) == UMLAZGRIN_UNITS_OUT && left());
+}
+
+/* Lengths with spare bytes: the text is the tree's. */
+static void spare_bytes(void) {
+    const uint8_t five[] = {0x81, 0x05}, nil[] = {0xc0, 0x00};
+    expect(write_text(five, 2, sizeof out) == UMLAZGRIN_ANSWERED && written.length == 4 && written.units == 5 && said("0x05"));
+    expect(write_text(nil, 2, sizeof out) == UMLAZGRIN_ANSWERED && written.length == 2 && written.units == 0 && said("()"));
 }
 
 /* Room for the result and no more, and one byte less; also none, with a null pointer. */
@@ -295,6 +302,7 @@ int main(void) {
     work_refused();
     environments();
     forms_refused();
+    spare_bytes();
     short_outputs();
     rooms();
     shared();

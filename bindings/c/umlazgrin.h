@@ -14,6 +14,9 @@
  * cut off or damaged 2 to 6, a text that is too long 16, one that does not parse 15 (umlazgrin_text_fault answers where). Any bytes may be
  * passed as a form or as a text.
  *
+ * A form that is read may spell its lengths with spare bytes, as older exporters do: 81 05 and c0 01 05 are the atom 5, as 05 is, and
+ * c0 00 is nil. The tree, its units and every answer are those of the shortest form. A form that is written is always the shortest.
+ *
  * The caller's duty, which nothing checks:
  *   - a pointer has as many bytes behind it as its length says, readable (form, forms, text, texts) or readable and writable (room, out);
  *     with length 0 it is never followed and may be null;
@@ -33,7 +36,7 @@ extern "C" {
 
 /* Bytes of room that every function needs, at least. */
 #define UMLAZGRIN_ROOM 65536
-/* Bytes in a form, at most. */
+/* Bytes in a form, at most, as it is passed: the spare ones count. */
 #define UMLAZGRIN_FORM 8192
 /* Bytes in a text, at most. The text of every form that is read is shorter. */
 #define UMLAZGRIN_TEXT 32768
@@ -46,7 +49,7 @@ enum umlazgrin_number {
     UMLAZGRIN_ROOM_SMALL = 1,       /* lent working room too small */
     UMLAZGRIN_FORM_LONG = 2,        /* form over 8,192 bytes; of a text, the form of its tree */
     UMLAZGRIN_ENDS_EARLY = 3,       /* form ends early; the empty form too */
-    UMLAZGRIN_BAD_PREFIX = 4,       /* prefix not carried, or not the shortest form */
+    UMLAZGRIN_BAD_PREFIX = 4,       /* prefix not carried: fc, fd or fe */
     UMLAZGRIN_ATOM_LONG = 5,        /* atom over 64 bytes */
     UMLAZGRIN_BYTES_AFTER = 6,      /* bytes after the form */
     UMLAZGRIN_UNITS_OUT = 7,        /* units run out */
@@ -102,7 +105,8 @@ uint8_t umlazgrin_match_place(const uint8_t *forms, size_t forms_length, size_t 
 uint8_t umlazgrin_check(const uint8_t *form, size_t form_length, uint8_t *room, size_t room_length,
                         struct umlazgrin_checked *report);
 
-/* Reads the form and writes its tree again: the same bytes. */
+/* Reads the form and writes its tree again, as the shortest form: the same bytes exactly where they were the shortest. What is written
+ * is read as the same tree. */
 uint8_t umlazgrin_write(const uint8_t *form, size_t form_length, uint8_t *room, size_t room_length,
                         uint8_t *out, size_t out_length, struct umlazgrin_written *report);
 
@@ -114,7 +118,7 @@ uint8_t umlazgrin_write(const uint8_t *form, size_t form_length, uint8_t *room, 
 uint8_t umlazgrin_read_text(const uint8_t *text, size_t text_length, uint8_t *room, size_t room_length,
                             uint8_t *out, size_t out_length, struct umlazgrin_written *report);
 
-/* Reads the form and writes its tree to out as text, which umlazgrin_read_text makes the same form of. */
+/* Reads the form and writes its tree to out as text. umlazgrin_read_text makes of it what umlazgrin_write makes of the form. */
 uint8_t umlazgrin_write_text(const uint8_t *form, size_t form_length, uint8_t *room, size_t room_length,
                              uint8_t *out, size_t out_length, struct umlazgrin_written *report);
 

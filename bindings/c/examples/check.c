@@ -1,4 +1,4 @@
-/* Checks two forms, one of which is not the shortest way to write its atom: ok 26, then no 4 */
+/* Checks (f 1), the atom 5 as older exporters write it, and a prefix that is not carried: ok 26, ok 5, then no 4 */
 #include "umlazgrin.h"
 #include <stdio.h>
 
@@ -13,8 +13,10 @@ static void check(const uint8_t *form, size_t length) {
 
 int main(void) {
     const uint8_t good[] = {0xff, 0x05, 0xff, 0x01, 0x80};
-    const uint8_t bad[] = {0x81, 0x05};
+    const uint8_t spare[] = {0x81, 0x05};
+    const uint8_t bad[] = {0xfc};
     check(good, sizeof good);
+    check(spare, sizeof spare);
     check(bad, sizeof bad);
     return 0;
 }

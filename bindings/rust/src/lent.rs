@@ -129,7 +129,7 @@ pub fn check(form: &[u8], room: &mut [u8]) -> Result<usize, Refusal> {
     Ok(report[0])
 }
 
-/// The form's tree written again.
+/// The form's tree written again, as the shortest form: the same bytes exactly where they were the shortest.
 pub fn write(form: &[u8], room: &mut [u8], out: &mut [u8]) -> Result<Written, Refusal> {
     let mut report = [0; 2];
     let number = unsafe {

@@ -5,11 +5,15 @@
 //! the caller lends. Give a thread that calls them 2 MiB of stack, which is what Rust gives one by itself: the most that a call was
 //! seen to take is under 1.25 MiB.
 //!
+//! A form that is read may spell its lengths with spare bytes, as older exporters do; the answers are those of the shortest form. A
+//! form that is written is always the shortest.
+//!
 //! ```
 //! let mut u = umlazgrin::Umlazgrin::new();
 //! let answer = u.optimise(&[0xff, 0x05, 0xff, 0x01, 0x80])?; // (f 1)
 //! assert_eq!((answer.tree, answer.passes, answer.units, answer.mark), (vec![2], 1, 31, false));
-//! assert_eq!(u.optimise(&[0x81, 0x05]).unwrap_err().number(), 4);
+//! assert_eq!(u.optimise(&[0x81, 0x05])?.tree, [0x05]); // an older exporter's spelling of the atom 5
+//! assert_eq!(u.optimise(&[0xfc]).unwrap_err().number(), 4);
 //! assert_eq!(u.optimise_text("(f (c 3 2))")?.text, "0x03");
 //! assert_eq!(u.optimise_text("(f (c 3 2)").unwrap_err().number(), 15);
 //! assert_eq!(u.text_fault("(f (c 3 2)")?, Some(10)); // at its end: a bracket is wanted
@@ -25,7 +29,7 @@ pub use refusal::Refusal;
 
 /// Bytes of working room that every function needs, at least.
 pub const ROOM: usize = 65_536;
-/// Bytes in a form, at most.
+/// Bytes in a form, at most, as it is passed: the spare ones count.
 pub const FORM: usize = 8_192;
 /// Bytes in a text, at most.
 pub const TEXT: usize = 32_768;
@@ -137,7 +141,8 @@ impl Umlazgrin {
         lent::check(form, &mut self.room)
     }
 
-    /// The form's tree written again: the same bytes, where the form is read at all.
+    /// The form's tree written again, as the shortest form: the same bytes exactly where they were the shortest. What is written is
+    /// read as the same tree.
     pub fn write(&mut self, form: &[u8]) -> Result<Vec<u8>, Refusal> {
         let r = lent::write(form, &mut self.room, &mut self.out)?;
         Ok(self.out[..r.length].to_vec())
@@ -149,7 +154,7 @@ impl Umlazgrin {
         Ok(self.out[..r.length].to_vec())
     }
 
-    /// The form's tree as text: [`Umlazgrin::read_text`] makes the same form of it.
+    /// The form's tree as text: [`Umlazgrin::read_text`] makes of it what [`Umlazgrin::write`] makes of the form.
     pub fn write_text(&mut self, form: &[u8]) -> Result<String, Refusal> {
         let r = lent::write_text(form, &mut self.room, &mut self.out)?;
         Ok(self.written(r.length))

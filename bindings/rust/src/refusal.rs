@@ -47,7 +47,7 @@ impl Refusal {
             RoomSmall => "lent working room too small",
             FormLong => "form over 8,192 bytes",
             EndsEarly => "form ends early",
-            BadPrefix => "prefix not carried, or not the shortest form",
+            BadPrefix => "prefix not carried: fc, fd or fe",
             AtomLong => "atom over 64 bytes",
             BytesAfter => "bytes after the form",
             UnitsOut => "units run out",

@@ -48,6 +48,19 @@ fn a_short_output() {
     assert_eq!(optimise(&FORM, &mut room, &mut []), Err(Refusal::OutputShort));
 }
 
+/// The output holds the shortest form, which may have fewer bytes than the one that was read.
+#[test]
+fn a_spare_spelling() {
+    let spare = [0xff, 0x81, 0x05, 0xff, 0xc0, 0x01, 0x01, 0xe0, 0x00, 0x00];
+    let (mut room, mut out) = (filled(ROOM), filled(40));
+    assert_eq!(write(&spare, &mut room, &mut out[..4]), Err(Refusal::OutputShort));
+    assert_eq!(out, filled(40));
+    let report = write(&spare, &mut room, &mut out[..5]).unwrap();
+    assert_eq!((report.length, report.units), (5, 26));
+    assert_eq!((&out[..5], &out[5..]), (&FORM[..], &filled(40)[5..]));
+    assert!(room.iter().all(|b| *b == 0));
+}
+
 #[test]
 fn empty_slices() {
     assert_eq!(optimise(&[], &mut [], &mut []), Err(Refusal::RoomSmall));

@@ -107,9 +107,68 @@ fn matching() {
 fn reading_and_writing() {
     let mut u = Umlazgrin::new();
     assert_eq!(u.check(&bytes("ff05ff0180")), Ok(26));
-    assert_eq!(u.check(&bytes("8105")), Err(Refusal::BadPrefix));
     assert_eq!(u.check(&bytes("0505")), Err(Refusal::BytesAfter));
     assert_eq!(u.write(&bytes("ff05ff0180")), Ok(bytes("ff05ff0180")));
+}
+
+/// 02: any length prefix from `81` to `fb` is taken with whatever length it states, zero included; the writer uses the shortest.
+#[test]
+fn spare_spellings() {
+    let mut u = Umlazgrin::new();
+    let one_byte = ["8105", "c00105", "e0000105", "f000000105", "f80000000105"].map(|form| (form, "05", 5));
+    let nil = ["c000", "e00000", "f0000000", "f800000000"].map(|form| (form, "80", 0));
+    let others = [
+        ("8100", "00", 5),
+        ("817f", "7f", 5),
+        ("c00180", "8180", 5),
+        ("e000020005", "820005", 6),
+        ("ff8105ffc00101e00000", "ff05ff0180", 26),
+    ];
+    for (form, shortest, units) in one_byte.into_iter().chain(nil).chain(others) {
+        assert_eq!(u.check(&bytes(form)), Ok(units), "{form}");
+        assert_eq!(u.write(&bytes(form)), Ok(bytes(shortest)), "{form}");
+        assert_eq!(u.write(&bytes(shortest)), Ok(bytes(shortest)), "{form}");
+        assert_eq!(u.optimise(&bytes(form)), u.optimise(&bytes(shortest)), "{form}");
+    }
+    let value = u.evaluate(&bytes("ff8104ff02ffc0010380"), &bytes("ff8105c00106")).unwrap();
+    assert_eq!((value.tree, value.steps, value.units), (bytes("ff0506"), 3, 65));
+    let bound = Match::Bound(vec![Binding { name: bytes("41"), tree: bytes("05") }]);
+    assert_eq!(u.matches(&bytes("ff813ac00141"), &bytes("e0000105")), Ok(bound));
+    assert_eq!(u.matches(&bytes("ff05ff0180"), &bytes("ff8105ff810280")).map(path), Ok(bytes("05")));
+}
+
+/// At one atom: missing prefix bytes 3; `fc`, `fd`, `fe` 4; over 64 bytes 5; missing body 3; units 7.
+#[test]
+fn the_order_at_one_atom() {
+    let mut u = Umlazgrin::new();
+    for form in ["c0", "df", "e0", "efff", "f0ffff", "f8ffffff", "fbffffff"] {
+        assert_eq!(u.check(&bytes(form)), Err(Refusal::EndsEarly), "{form}");
+    }
+    for form in ["fc", "fd", "fe", "fc0105", "fd00", "feff", "ff05fc", "fffe05"] {
+        assert_eq!(u.check(&bytes(form)), Err(Refusal::BadPrefix), "{form}");
+    }
+    for form in ["c041", "e00041", "f0000041", "f800000041", "fbffffffff"] {
+        assert_eq!(u.check(&bytes(form)), Err(Refusal::AtomLong), "{form}");
+    }
+    for form in ["81", "bf", "c001", "c040", "e00001", "f800000001"] {
+        assert_eq!(u.check(&bytes(form)), Err(Refusal::EndsEarly), "{form}");
+    }
+    // Pairs in left parts: all but the outermost are charged before the last atom, which has 16 units left.
+    let last = |atom: &str| [vec![0xff; 2520], vec![0x05; 2520], bytes(atom)].concat();
+    assert_eq!(u.check(&last("c00401020304")), Ok(32_768));
+    assert_eq!(u.check(&last("c00d0102030405060708090a0b0c0d")), Err(Refusal::UnitsOut));
+    assert_eq!(u.check(&last("c00d0102030405060708090a0b0c")), Err(Refusal::EndsEarly));
+    assert_eq!(u.check(&last("c041")), Err(Refusal::AtomLong));
+}
+
+/// A form's limit counts its bytes as they were submitted.
+#[test]
+fn spare_bytes_count() {
+    let mut u = Umlazgrin::new();
+    let ending = |end: &str| [bytes("fff80000000105").repeat(1170), bytes(end)].concat();
+    assert_eq!((ending("c000").len(), u.check(&ending("c000"))), (8_192, Ok(15_210)));
+    assert_eq!(u.write(&ending("c000")), Ok([[0xff, 0x05].repeat(1170), vec![0x80]].concat()));
+    assert_eq!(u.check(&ending("e00000")), Err(Refusal::FormLong));
 }
 
 #[test]

@@ -101,7 +101,7 @@ fn refusals_of_the_work() {
     assert_eq!(u.evaluate_text("(x)", "()"), Err(Refusal::Fails));
     assert_eq!(u.evaluate_text("(10)", "()"), Err(Refusal::NoOperator));
     assert_eq!(u.write_text(&[]), Err(Refusal::EndsEarly));
-    assert_eq!(u.write_text(&[0x81, 0x05]), Err(Refusal::BadPrefix));
+    assert_eq!(u.write_text(&[0xfc]), Err(Refusal::BadPrefix));
     assert_eq!(u.write_text(&[0x05, 0x05]), Err(Refusal::BytesAfter));
     assert_eq!(u.write_text(&[0xff; FORM + 1]), Err(Refusal::FormLong));
     assert_eq!(u.write_text(&[&[0xc0, 0x41][..], &[0x11; 65]].concat()), Err(Refusal::AtomLong));
@@ -120,7 +120,7 @@ fn environments() {
     assert_eq!(u.evaluate_text("1 ", " 2").unwrap().text, "0x02");
 }
 
-/// Whatever is written is read again, to the same form.
+/// Whatever is written is read again, to the same form: each of these is the shortest.
 #[test]
 fn there_and_back() {
     let mut u = Umlazgrin::new();
@@ -132,6 +132,17 @@ fn there_and_back() {
         let text = u.write_text(&form).unwrap();
         assert!(text.len() < TEXT);
         assert_eq!(u.read_text(&text).unwrap(), form);
+    }
+}
+
+/// A form with spare bytes becomes the text of its tree, and that the shortest form.
+#[test]
+fn spare_spellings() {
+    let mut u = Umlazgrin::new();
+    let list = [0xff, 0x81, 0x05, 0xff, 0xc0, 0x01, 0x01, 0xe0, 0x00, 0x00];
+    for (form, text) in [(&[0x81, 0x05][..], "0x05"), (&[0xc0, 0x00][..], "()"), (&list[..], "(f 0x01)")] {
+        assert_eq!(u.write_text(form).unwrap(), text);
+        assert_eq!(u.read_text(text), u.write(form));
     }
 }
 

@@ -1,19 +1,18 @@
 -- Reading an atom from a stretch of bytes. Assumes nothing.
 use mathlib.Core.Path.{_≡_, refl, sym, _∙_, ap}
 use mathlib.Core.List.{List, [], _∷_, _++_}
-use mathlib.Core.Bool.{true, false}
 use Prim.Native.Nat.{ℕ, zero, suc, _+_, _-_, _<_, _≤_}
 use native.Mathlib.Omega.{arith}
-use lib.ListN.{length, getD, take, drop, take-append-drop, length-drop}
+use lib.ListN.{length, getD, take, drop, take-append-drop}
 use lib.Seq.{drop-cons, length-take-le}
 use lib.Dec.{leb}
 use borrow.Author.Tests.{lt-ltb, le-ltb, ne-eqb, le-leb, lt-leb}
 use Rattle.refusals.specs.declared.Refusal.{Refusal}
-use Rattle.refusals.specs.declared.Refusal.the-variants.{EndsEarly, BadPrefix, AtomLong}
+use Rattle.refusals.specs.declared.Refusal.the-variants.{EndsEarly, AtomLong}
 use Rattle.meaning.specs.Tree.{Tree, atom, nil, byte}
 use Rattle.meaning.specs.Limits.{atom-limit, atom-cost}
 use Rattle.meaning.specs.Meter.{done, M, _>>=_, _>>_, give, hold}
-use Rattle.meaning.specs.Form.{Reading, limits, next, first-of, body, needs-prefix, length-from, spend, read-long, read-atom}
+use Rattle.meaning.specs.Form.{Reading, limits, next, first-of, body, length-from, spend, read-long, read-atom}
 use Rattle.meaning.proofs.MeterLaws.{bind-at, seq-at}
 use Rattle.meaning.proofs.ReaderLaws.{hold-at, body-at}
 use Rattle.form.specs.declared.Length.{Length}
@@ -45,7 +44,7 @@ body-none f end at u n e h = short-body n (span f at end) u (omega (arith, span-
 -- ---- an atom with a prefix
 
 after-length : ℕ → M Reading Tree
-after-length n = hold (leb n atom-limit) AtomLong >> (body n >>= λ bs. hold (needs-prefix bs) BadPrefix >> (spend limits (4 + n) >> give (atom bs)))
+after-length n = hold (leb n atom-limit) AtomLong >> (body n >>= λ bs. spend limits (atom-cost bs) >> give (atom bs))
 
 module _ (f : List ℕ) (end at p u : ℕ) (r : Length) (o : LengthOk f end at (length-from p) r) where
   pub long-stops : (e : Refusal) → r ≡ Refused e → Stops (read-long limits p (left-from f at end u)) e
@@ -71,32 +70,16 @@ module _ (f : List ℕ) (end at p u : ℕ) (r : Length) (o : LengthOk f end at (
     unfolding after-length
     long-wide h = same-stops then (seq-stops (hold (leb n atom-limit) AtomLong) _ (left-from f from end u) AtomLong (hold-stops (leb n atom-limit) AtomLong (left-from f from end u) (lt-leb n atom-limit h)))
 
-    held : n ≤ atom-limit → read-long limits p (left-from f at end u) ≡ (body n >>= λ bs. hold (needs-prefix bs) BadPrefix >> (spend limits (4 + n) >> give (atom bs))) (left-from f from end u)
+    held : n ≤ atom-limit → read-long limits p (left-from f at end u) ≡ (body n >>= λ bs. spend limits (atom-cost bs) >> give (atom bs)) (left-from f from end u)
     unfolding after-length
     held h = then ∙ seq-at (hold (leb n atom-limit) AtomLong) _ (left-from f from end u) (left-from f from end u) tt (hold-at (leb n atom-limit) AtomLong (left-from f from end u) (le-leb n atom-limit h))
 
     pub long-ends : end ≤ length f → n ≤ atom-limit → end - from < n → Stops (read-long limits p (left-from f at end u)) EndsEarly
     long-ends e h l = same-stops (held h) (bind-stops (body n) _ (left-from f from end u) EndsEarly (body-none f end from u n e l))
 
-    module _ (e : end ≤ length f) (h : n ≤ atom-limit) (l : from + n ≤ end) where
-      bodied : read-long limits p (left-from f at end u) ≡ (hold (needs-prefix (take n (drop from f))) BadPrefix >> (spend limits (4 + n) >> give (atom (take n (drop from f))))) (left-from f (from + n) end u)
-      bodied = held h ∙ bind-at (body n) _ (left-from f from end u) (left-from f (from + n) end u) (take n (drop from f)) (body-here f end from u n e l)
-
-      pub long-alone : needs-prefix (take n (drop from f)) ≡ false → Stops (read-long limits p (left-from f at end u)) BadPrefix
-      long-alone g = same-stops bodied
-          (seq-stops (hold (needs-prefix (take n (drop from f))) BadPrefix) _ (left-from f (from + n) end u) BadPrefix (hold-stops (needs-prefix (take n (drop from f))) BadPrefix (left-from f (from + n) end u) g))
-
-      pub long-made : needs-prefix (take n (drop from f)) ≡ true → read-long limits p (left-from f at end u) ≡ (spend limits (4 + n) >> give (atom (take n (drop from f)))) (left-from f (from + n) end u)
-      long-made g = bodied ∙ seq-at (hold (needs-prefix (take n (drop from f))) BadPrefix) _ (left-from f (from + n) end u) (left-from f (from + n) end u) tt (hold-at (needs-prefix (take n (drop from f))) BadPrefix (left-from f (from + n) end u) g)
-
-      -- the body is not empty, so it costs what any atom does
-      pub long-cost : needs-prefix (take n (drop from f)) ≡ true → atom-cost (take n (drop from f)) ≡ 4 + n
-      unfolding needs-prefix atom-cost
-      long-cost g = go (take n (drop from f)) (length-take-le n (drop from f) (simp length-drop (omega arith))) g
-        where
-          go : (bs : List ℕ) → length bs ≡ n → needs-prefix bs ≡ true → atom-cost bs ≡ 4 + n
-          go [] z g = let y : _≡_ {A = ℕ} 0 1 = cc in absurd (omega arith)
-          go (x ∷ bs) z g = ap (λ (k : ℕ). 4 + k) z
+    pub long-made : end ≤ length f → n ≤ atom-limit → from + n ≤ end
+        → read-long limits p (left-from f at end u) ≡ (spend limits (atom-cost (take n (drop from f))) >> give (atom (take n (drop from f)))) (left-from f (from + n) end u)
+    long-made e h l = held h ∙ bind-at (body n) _ (left-from f from end u) (left-from f (from + n) end u) (take n (drop from f)) (body-here f end from u n e l)
 
 -- ---- by the first byte
 

@@ -51,7 +51,7 @@ module _ (p e : List ℕ) where
     unfolding read-both
     second-stops n (stops s k) = stops s (rw (h, read-both, k))
 
-    both-read : (u : Tree) (q : Reading) → read-form e (r .units) ≡ done u q → read-both p e ≡ done (record { one = t; other = u }) q
+    pub both-read : (u : Tree) (q : Reading) → read-form e (r .units) ≡ done u q → read-both p e ≡ done (record { one = t; other = u }) q
     unfolding read-both
     both-read u q k = rw (h, read-both, k)
 

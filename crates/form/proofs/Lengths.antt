@@ -10,15 +10,14 @@ use lib.ListN.{length, getD}
 use mir.Syntax.{w64}
 use mir.Val.{Fits}
 use lib.Dec.{leb}
-use borrow.Author.Tests.{lt-ltb, le-ltb, le-leb, lt-leb}
-use Rattle.refusals.specs.declared.Refusal.{Refusal}
+use borrow.Author.Tests.{lt-ltb, le-ltb}
 use Rattle.refusals.specs.declared.Refusal.the-variants.{EndsEarly, BadPrefix}
-use Rattle.meaning.specs.Meter.{M, _>>=_, _>>_, give, hold, refuse}
-use Rattle.meaning.specs.Form.{Reading, next, more, sized, length-from, needs-prefix}
+use Rattle.meaning.specs.Meter.{M, give, refuse}
+use Rattle.meaning.specs.Form.{Reading, next, more, length-from, needs-prefix}
 use Rattle.meaning.proofs.MeterLaws.{bind-at}
 use Rattle.form.specs.declared.Length.{Length}
 use Rattle.form.specs.declared.Length.the-variants.{Long, Refused}
-use Rattle.form.specs.Spans.{left-from, stops, LengthTo, LengthOk}
+use Rattle.form.specs.Spans.{left-from, stops, LengthOk}
 use Rattle.form.proofs.Spans.{next-here, next-none, bind-stops, same-stops}
 
 -- the loop: after i of the k bytes the number is n
@@ -94,32 +93,6 @@ module _ (f : List ℕ) (end at k v n i : ℕ) (c : Counted f end at k v n i) wh
         is = λ u. c .so u ∙ (let z : k - i ≡ 0 = omega arith in rw (z, e));
       }
 
--- ---- a length of k bytes more
-
-module _ (f : List ℕ) (end at k v least : ℕ) (r : Length) (o : LengthOk f end at (more k v) r) where
-  pub sized-stops : (e : Refusal) → r ≡ Refused e → LengthOk f end at (sized k v least) (Refused e)
-  unfolding LengthOk sized
-  sized-stops e i = let h : LengthOk f end at (more k v) (Refused e) = rw i at o in record {
-    is = λ u. bind-stops (more k v) _ (left-from f at end u) e (h .is u);
-  }
-
-  module _ (n next : ℕ) (i : r ≡ Long n next) where
-    to : LengthTo f end at (more k v) n next
-    unfolding LengthOk
-    to = rw i at o
-
-    then : (u : ℕ) → sized k v least (left-from f at end u) ≡ (hold (leb least n) BadPrefix >> give n) (left-from f next end u)
-    unfolding sized
-    then u = bind-at (more k v) (λ m. hold (leb least m) BadPrefix >> give m) (left-from f at end u) (left-from f next end u) n (to .is u)
-
-    pub sized-over : n < least → LengthOk f end at (sized k v least) (Refused BadPrefix)
-    unfolding LengthOk hold refuse _>>_ _>>=_
-    sized-over h = record { is = λ u. stops (left-from f next end u) (then u ∙ rw (lt-leb least n h)) }
-
-    pub sized-done : least ≤ n → LengthOk f end at (sized k v least) (Long n next)
-    unfolding LengthOk hold give _>>_ _>>=_
-    sized-done h = record { after = to .after; within = to .within; is = λ u. then u ∙ rw (le-leb least n h) }
-
 -- ---- the length that a prefix says
 
 module _ (f : List ℕ) (end at p : ℕ) where
@@ -131,19 +104,19 @@ module _ (f : List ℕ) (end at p : ℕ) where
   unfolding LengthOk length-from give
   from-none h l = row (give (p - 128)) (Long (p - 128) at) (rw (lt-ltb p 192 l, length-from)) (record { after = omega arith; within = h; is = λ u. refl })
 
-  pub from-one : (r : Length) → LengthOk f end at (sized 1 (p - 192) 64) r → 192 ≤ p → p < 224 → LengthOk f end at (length-from p) r
+  pub from-one : (r : Length) → LengthOk f end at (more 1 (p - 192)) r → 192 ≤ p → p < 224 → LengthOk f end at (length-from p) r
   unfolding length-from
   from-one r o h l = row _ r (rw (le-ltb p 192 h, lt-ltb p 224 l, length-from)) o
 
-  pub from-two : (r : Length) → LengthOk f end at (sized 2 (p - 224) 8192) r → 224 ≤ p → p < 240 → LengthOk f end at (length-from p) r
+  pub from-two : (r : Length) → LengthOk f end at (more 2 (p - 224)) r → 224 ≤ p → p < 240 → LengthOk f end at (length-from p) r
   unfolding length-from
   from-two r o h l = row _ r (rw (le-ltb p 192 (omega arith), le-ltb p 224 h, lt-ltb p 240 l, length-from)) o
 
-  pub from-three : (r : Length) → LengthOk f end at (sized 3 (p - 240) 1048576) r → 240 ≤ p → p < 248 → LengthOk f end at (length-from p) r
+  pub from-three : (r : Length) → LengthOk f end at (more 3 (p - 240)) r → 240 ≤ p → p < 248 → LengthOk f end at (length-from p) r
   unfolding length-from
   from-three r o h l = row _ r (rw (le-ltb p 192 (omega arith), le-ltb p 224 (omega arith), le-ltb p 240 h, lt-ltb p 248 l, length-from)) o
 
-  pub from-four : (r : Length) → LengthOk f end at (sized 4 (p - 248) 134217728) r → 248 ≤ p → p < 252 → LengthOk f end at (length-from p) r
+  pub from-four : (r : Length) → LengthOk f end at (more 4 (p - 248)) r → 248 ≤ p → p < 252 → LengthOk f end at (length-from p) r
   unfolding length-from
   from-four r o h l = row _ r (rw (le-ltb p 192 (omega arith), le-ltb p 224 (omega arith), le-ltb p 240 (omega arith), le-ltb p 248 h, lt-ltb p 252 l, length-from)) o
 

@@ -1,7 +1,6 @@
 -- What each return of the reader needs. Assumes nothing.
 use mathlib.Core.Path.{_≡_, refl, sym, _∙_, ap, subst}
 use mathlib.Core.List.{List, [], _∷_}
-use mathlib.Core.Bool.{Bool, true, false}
 use Prim.Native.Nat.{ℕ, suc, _+_, _-_, _*_, _<_, _≤_}
 use native.Mathlib.Omega.{arith}
 use lib.ListN.{length, getD, take, drop, set, length-set}
@@ -10,11 +9,11 @@ use borrow.Author.Tests.{le-leb}
 use mir.Syntax.{w64}
 use mir.Val.{Fits}
 use Rattle.refusals.specs.declared.Refusal.{Refusal}
-use Rattle.refusals.specs.declared.Refusal.the-variants.{EndsEarly, BadPrefix, AtomLong, UnitsOut}
+use Rattle.refusals.specs.declared.Refusal.the-variants.{EndsEarly, AtomLong, UnitsOut}
 use Rattle.meaning.specs.Tree.{Tree, atom, pair, byte}
 use Rattle.meaning.specs.Limits.{unit-limit, atom-cost, pair-cost}
 use Rattle.meaning.specs.Meter.{Out, M, _>>=_, _>>_, give}
-use Rattle.meaning.specs.Form.{Reading, limits, spend, needs-prefix, length-from, read-long, read-atom}
+use Rattle.meaning.specs.Form.{Reading, limits, spend, length-from, read-long, read-atom}
 use Rattle.meaning.proofs.MeterLaws.{bind-at, seq-at}
 use Rattle.meaning.proofs.ReaderLaws.{spend-at}
 use Rattle.store.specs.declared.Charges.{Charges}
@@ -93,27 +92,14 @@ module _ (f s : List ℕ) (end at : ℕ) (c : Charges) (p : ℕ) (r : Length) (o
     pub long-place : Stretch f end at → from < 65536
     long-place z = omega (arith, z .small, long-within)
 
-    module _ (z : Stretch f end at) (h : n ≤ 64) (l : n ≤ end - from) where
-      fit : from + n ≤ end
-      fit = omega (arith, long-within)
-
-      same : take (from + n - from) (drop from f) ≡ take n (drop from f)
-      same = let e : from + n - from ≡ n = omega arith in rw e
-
-      pub long-alone : (s′ : List ℕ) (b : Bool) → b ≡ needs-prefix (take (from + n - from) (drop from f)) → b ≡ false
-          → ReadOk f s s′ end at c (read-long limits p (left-from f at end (c .units))) (Refused BadPrefix)
-      unfolding ReadOk
-      long-alone s′ b e g = atoms.long-alone f end at p (c .units) r o n from i (z .lent) h fit (rw same at (sym e ∙ g))
-
-      pub long-made : (s′ : List ℕ) (a : Answer) (m : Made) (b : Bool) → a ≡ reading-of m (from + n) → MadeOk f s s′ c (atom-cost (take n (drop from f))) (atom (take n (drop from f))) m
-          → b ≡ needs-prefix (take (from + n - from) (drop from f)) → b ≡ true → ReadOk f s s′ end at c (read-long limits p (left-from f at end (c .units))) a
-      long-made s′ a m b ea k e g =
-          let t : needs-prefix (take n (drop from f)) ≡ true = rw same at (sym e ∙ g) in
-          let w : atom-cost (take n (drop from f)) ≡ 4 + n = atoms.long-cost f end at p (c .units) r o n from i (z .lent) h fit t in
-          rw ea
-          (made-read f s s′ end at (from + n) c (4 + n) (atom (take n (drop from f))) (read-long limits p (left-from f at end (c .units))) m (rw w at k)
-          (atoms.long-made f end at p (c .units) r o n from i (z .lent) h fit t)
-          (let y : at ≤ from = atoms.from-after f end at p (c .units) r o n from i in omega arith) fit)
+    pub long-made : (s′ : List ℕ) (a : Answer) (m : Made) → a ≡ reading-of m (from + n) → MadeOk f s s′ c (atom-cost (take n (drop from f))) (atom (take n (drop from f))) m
+        → Stretch f end at → n ≤ 64 → n ≤ end - from → ReadOk f s s′ end at c (read-long limits p (left-from f at end (c .units))) a
+    long-made s′ a m ea k z h l =
+        let fit : from + n ≤ end = omega (arith, long-within) in
+        rw ea
+        (made-read f s s′ end at (from + n) c (atom-cost (take n (drop from f))) (atom (take n (drop from f))) (read-long limits p (left-from f at end (c .units))) m k
+        (atoms.long-made f end at p (c .units) r o n from i (z .lent) h fit)
+        (let y : at ≤ from = atoms.from-after f end at p (c .units) r o n from i in omega arith) fit)
 
 -- ---- by the first byte
 

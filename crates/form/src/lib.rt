@@ -10,7 +10,7 @@ ghost use mathlib.Core.Bool.{true};
 ghost use Prim.Native.Nat.{_+_, _-_, _≤_, _<_};
 ghost use lib.ListN.{length, take, drop, getD};
 ghost use Rattle.meaning.specs.Limits.{form-limit, room-least};
-ghost use Rattle.meaning.specs.Form.{limits, more, sized, length-from, needs-prefix, read-long, write-atom, write};
+ghost use Rattle.meaning.specs.Form.{limits, more, length-from, needs-prefix, read-long, write-atom, write};
 ghost use Rattle.meaning.specs.Outcome.{deliver-tree, Delivers, Settles};
 ghost use Rattle.store.specs.Nodes.{treeAt, tree-in};
 ghost use Rattle.store.specs.Store.{Held, Ready, atom-most};
@@ -98,23 +98,6 @@ fn more(form: &[u8], stop: usize, at: usize, k: usize, v: usize) -> Length
     Length::Long(n, at + k)
 }
 
-// A length of k bytes more; one that a shorter prefix can say is overlong.
-fn sized(form: &[u8], stop: usize, at: usize, k: usize, v: usize, least: usize) -> Length
-    requires { ⌜ (at ≤ stop) × (stop ≤ length (now form)) × (k ≤ 4) × (v < 64) ⌝ }
-    ensures { λ r. ⌜ LengthOk (now (form .entry)) stop at (sized k v least) r ⌝ }
-{
-    match more(form, stop, at, k, v) {
-        Length::Long(n, next) => {
-            if n < least {
-                Length::Refused(Refusal::BadPrefix)
-            } else {
-                Length::Long(n, next)
-            }
-        }
-        Length::Refused(e) => Length::Refused(e),
-    }
-}
-
 // The length that the prefix p, from 80 on, says; the byte after it stands at at.
 fn length_from(form: &[u8], stop: usize, at: usize, p: usize) -> Length
     requires { ⌜ (at ≤ stop) × (stop ≤ length (now form)) × (128 ≤ p) × (p < 256) ⌝ }
@@ -124,31 +107,18 @@ fn length_from(form: &[u8], stop: usize, at: usize, p: usize) -> Length
         return Length::Long(p - 0x80, at);
     }
     if p < 0xe0 {
-        return sized(form, stop, at, 1, p - 0xc0, 0x40);
+        return more(form, stop, at, 1, p - 0xc0);
     }
     if p < 0xf0 {
-        return sized(form, stop, at, 2, p - 0xe0, 0x2000);
+        return more(form, stop, at, 2, p - 0xe0);
     }
     if p < 0xf8 {
-        return sized(form, stop, at, 3, p - 0xf0, 0x100000);
+        return more(form, stop, at, 3, p - 0xf0);
     }
     if p < 0xfc {
-        return sized(form, stop, at, 4, p - 0xf8, 0x8000000);
+        return more(form, stop, at, 4, p - 0xf8);
     }
     Length::Refused(Refusal::BadPrefix)
-}
-
-// Whether a body needs a prefix: a byte below 80 is written alone.
-fn needs_prefix(b: &[u8]) -> bool
-    ensures { λ r. ⌜ r ≡ needs-prefix (now (b .entry)) ⌝ }
-{
-    if b.len() == 0 {
-        return false;
-    }
-    if b.len() == 1 {
-        return 0x80 <= b[0];
-    }
-    true
 }
 
 // ---- reading
@@ -162,7 +132,7 @@ fn with_next(m: Made, next: usize) -> Reading
     }
 }
 
-// An atom that begins with the prefix p, above 80; the byte after it stands at at.
+// An atom that begins with the prefix p, above 80, in any spelling; the byte after it stands at at. An empty one is nil.
 fn read_long(form: &[u8], room: &mut [u8], stop: usize, at: usize, p: usize, ch: Charges) -> Reading
     requires { ⌜ Held (now form) (now room) ch × Stretch (now form) stop at × (128 ≤ p) × (p < 256) ⌝ }
     ensures { λ r. ⌜ ReadOk (now (form .entry)) (now (room .entry)) (now (room .exit)) stop at ch (read-long limits p (left-from (now (form .entry)) at stop (ch .units))) r ⌝ }
@@ -176,12 +146,7 @@ fn read_long(form: &[u8], room: &mut [u8], stop: usize, at: usize, p: usize, ch:
             if stop - from < n {
                 return Reading::Refused(Refusal::EndsEarly);
             }
-            let next = from + n;
-            if needs_prefix(&form[from..next]) {
-                with_next(store::form_atom_node(form, room, ch, from, n), next)
-            } else {
-                Reading::Refused(Refusal::BadPrefix)
-            }
+            with_next(store::form_atom_node(form, room, ch, from, n), from + n)
         }
     }
 }
@@ -315,6 +280,19 @@ pub fn read_form(form: &[u8], room: &mut [u8], from: usize, stop: usize, ch: Cha
 }
 
 // ---- writing
+
+// Whether an atom of these bytes is written behind its length: a byte below 80 is written alone.
+fn needs_prefix(b: &[u8]) -> bool
+    ensures { λ r. ⌜ r ≡ needs-prefix (now (b .entry)) ⌝ }
+{
+    if b.len() == 0 {
+        return false;
+    }
+    if b.len() == 1 {
+        return 0x80 <= b[0];
+    }
+    true
+}
 
 // How many bytes an atom of these is written in.
 fn atom_length(b: &[u8]) -> usize

@@ -110,7 +110,7 @@ both-narrow p e = first (read-form p 0) refl
       | done t s ↦ elim (read-form e (s .units)) [ done u r ↦ done (record { one = t; other = u }) r | stop n r ↦ stop n r ]
       | stop n s ↦ stop n s
     ])
-    first (done t s) i = second t (form-read p t s i .narrow) (read-form e (s .units))
+    first (done t s) i = second t (form-read p 0 t s i .narrow) (read-form e (s .units))
     first (stop n s) i = tt
 
 -- what was worked binds few names

@@ -5,6 +5,7 @@
 use Prim.Native.Nat.{ℕ, _≤_}
 use mathlib.Core.Path.{_≡_, refl, subst}
 use mathlib.Core.List.{List, []}
+use mathlib.Core.Logic.{_↔_}
 use mathlib.Core.Bool.{Bool, false}
 use lib.ListN.{length}
 use native.Mathlib.Omega.{arith}
@@ -14,13 +15,17 @@ use Rattle.refusals.specs.Numbers.{number-of}
 use Rattle.meaning.specs.Tree.{Tree}
 use Rattle.meaning.specs.Limits.{form-limit, unit-limit}
 use Rattle.meaning.specs.Meter.{done, Spent, Steps}
-use Rattle.meaning.specs.Form.{Reading, read-form, write, ReadsAs, Narrow, tree-cost, IsBytes}
+use Rattle.meaning.specs.Form.{Reading, read-form, write, ReadsAs, Narrow, tree-cost, IsBytes, Shortest}
+use Rattle.meaning.specs.Strict.{strict-form}
 use Rattle.meaning.specs.Evaluate.{Gives, evaluate}
 use Rattle.meaning.specs.Driver.{optimize-sexp}
 use Rattle.meaning.specs.Outcome.{refused, out-after}
 use Rattle.meaning.specs.Run.{finished, run}
-use Rattle.meaning.proofs.ReadWrite.{form-read}
+use Rattle.meaning.proofs.Atoms.{narrow-writable}
 use Rattle.meaning.proofs.WriteRead.{form-write}
+use Rattle.meaning.proofs.Unless.{Unless}
+use Rattle.meaning.proofs.Shortest.{written-shortest, read-again, back-exactly}
+use Rattle.meaning.proofs.StrictLaws.{Four, form-kept}
 use Rattle.meaning.proofs.Lent.{InTable}
 use Rattle.meaning.proofs.RunLaws.{answer-fits, run-table}
 use Rattle.meaning.proofs.BoundedEval.{evaluated}
@@ -62,11 +67,24 @@ pub demand-1-fits : (form : List ℕ) (room-length out-length : ℕ) (bytes : Li
     → run form room-length out-length ≡ finished bytes passes units mark → length bytes ≤ out-length
 demand-1-fits = answer-fits
 
--- ---- Demand 2. "Writing a form just read gives back its bytes." (That code equals these definitions is each function's contract; that the
--- definitions are the Rust's is compared by running: Table, Readings, oracle/check-definitions.)
+-- ---- Demand 2. "Writing and reading again gives the same tree, and the bytes return exactly when they were shortest." (That code equals these
+-- definitions is each function's contract; that the definitions are the Rust's is compared by running: Table, Readings, oracle/check-definitions.)
 
-pub demand-2-back : (bytes : List ℕ) (t : Tree) (s : Reading) → IsBytes bytes → read-form bytes 0 ≡ done t s → write t ≡ bytes
-demand-2-back bytes t s b h = form-read bytes t s h .written b
+-- the same tree, for the same units
+pub demand-2-again : (bytes : List ℕ) (t : Tree) (s : Reading) → IsBytes bytes → read-form bytes 0 ≡ done t s → read-form (write t) 0 ≡ done t s
+demand-2-again bytes t s b h = read-again bytes b t s 0 (omega arith) h
+
+-- the bytes exactly when they were shortest
+pub demand-2-back : (bytes : List ℕ) (t : Tree) (s : Reading) → IsBytes bytes → read-form bytes 0 ≡ done t s → (write t ≡ bytes) ↔ Shortest bytes
+demand-2-back bytes t s b h = back-exactly bytes b t s h
+
+-- "The writer still uses the shortest."
+pub demand-2-shortest : (t : Tree) → Narrow t → Shortest (write t)
+demand-2-shortest t h = written-shortest t (narrow-writable t h)
+
+-- What was answered when only the shortest was taken keeps its answer; what was refused keeps its number, unless that was 4.
+pub demand-2-kept : (bytes : List ℕ) (u : ℕ) → Unless Four (strict-form bytes u) (read-form bytes u)
+demand-2-kept = form-kept
 
 -- and every tree within the limits is read back from what is written of it
 pub demand-2-forth : (t : Tree) → length (write t) ≤ form-limit → Narrow t → tree-cost t ≤ unit-limit

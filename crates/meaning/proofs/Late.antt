@@ -10,9 +10,9 @@ use Rattle.refusals.specs.declared.Refusal.{Refusal}
 use Rattle.refusals.specs.declared.Refusal.the-variants.{FormLong, EndsEarly, BadPrefix, AtomLong, BytesAfter, UnitsOut, Fails, NoOperator, StepsOut, PassesOut, TooDeep}
 use Rattle.meaning.specs.Tree.{Tree, atom, pair, nil, byte, is-empty, proper-list}
 use Rattle.meaning.specs.Number.{number, lookup}
-use Rattle.meaning.specs.Limits.{form-limit, unit-limit, step-limit, pass-limit, pair-cost}
+use Rattle.meaning.specs.Limits.{form-limit, unit-limit, step-limit, pass-limit, pair-cost, atom-cost}
 use Rattle.meaning.specs.Meter.{Out, done, stop, M, _>>=_, _>>_, give, refuse, hold, E, Steps, chargeE, one-step, Spent, charge, one-pass, mark-if, within}
-use Rattle.meaning.specs.Form.{Reading, limits, first-of, next, more, sized, length-from, body, needs-prefix, spend, read-long, read-atom, read, at-end, read-whole, read-form}
+use Rattle.meaning.specs.Form.{Reading, limits, first-of, next, more, length-from, body, spend, read-long, read-atom, read, at-end, read-whole, read-form}
 use Rattle.meaning.specs.Operator.{Op, Head, quoted, op, other, head-of, takes, Made, makes, runs, cannot, perform}
 use Rattle.meaning.specs.Evaluate.{RunnerB, foundB, each-valueB, finishB, callB, operateB, stepB, evalB, evaluate}
 use Rattle.meaning.specs.Driver.{optimize-sexp}
@@ -78,18 +78,14 @@ unfolding more
 late-more zero v = late-give v
 late-more (suc k) v = late-bind late-next (λ b. late-more k (v * 256 + b))
 
-late-sized : (k v least : ℕ) → Late (sized k v least)
-unfolding sized
-late-sized k v least = late-bind (late-more k v) (λ n. late-seq (late-hold (leb least n) BadPrefix refl) (late-give n))
-
 late-length : (p : ℕ) → Late (length-from p)
 unfolding length-from
 late-length p =
     late-if (ltb p 0xc0) (late-give (p - 0x80))
-    (late-if (ltb p 0xe0) (late-sized 1 (p - 0xc0) 0x40)
-    (late-if (ltb p 0xf0) (late-sized 2 (p - 0xe0) 0x2000)
-    (late-if (ltb p 0xf8) (late-sized 3 (p - 0xf0) 0x10_0000)
-    (late-if (ltb p 0xfc) (late-sized 4 (p - 0xf8) 0x800_0000) (late-refuse BadPrefix refl)))))
+    (late-if (ltb p 0xe0) (late-more 1 (p - 0xc0))
+    (late-if (ltb p 0xf0) (late-more 2 (p - 0xe0))
+    (late-if (ltb p 0xf8) (late-more 3 (p - 0xf0))
+    (late-if (ltb p 0xfc) (late-more 4 (p - 0xf8)) (late-refuse BadPrefix refl)))))
 
 late-body : (n : ℕ) → Late (body n)
 unfolding body
@@ -108,7 +104,7 @@ late-atom p =
     (late-bind (late-length p) (λ n.
     late-seq (late-hold (limits .atom-fits n) AtomLong refl)
     (late-bind (late-body n) (λ bs.
-    late-seq (late-hold (needs-prefix bs) BadPrefix refl) (late-seq (late-spend (4 + n)) (late-give (atom bs))))))))
+    late-seq (late-spend (atom-cost bs)) (late-give (atom bs)))))))
 
 late-tree : (k : ℕ) → Late (read limits k)
 unfolding read

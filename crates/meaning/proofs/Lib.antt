@@ -19,10 +19,16 @@ pub mod Turn
 pub mod Ended
 pub mod Differs
 pub mod Atoms
+pub mod AreBytes
 pub mod ReaderLaws
+pub mod NoShorter
 pub mod Prefix
 pub mod WriteRead
 pub mod ReadWrite
+pub mod Unless
+pub mod Shortest
+pub mod StrictLaws
+pub mod Spellings
 pub mod Yields
 pub mod NarrowEvaluate
 pub mod NarrowMatch

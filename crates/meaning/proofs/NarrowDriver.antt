@@ -49,7 +49,7 @@ optimize-narrow d t u s s′ e h = drive-narrow d t h .result s s′ u e
 pub worked-narrow : (form : List ℕ) (u : Tree) (s : Spent) → worked form ≡ done u s → Narrow u
 worked-narrow form u s h =
     let (t, r, e, k) = worked-inv form u s h in
-    optimize-narrow nesting-limit t u (after-reading r) s k (form-read form t r e .narrow)
+    optimize-narrow nesting-limit t u (after-reading r) s k (form-read form 0 t r e .narrow)
 
 -- So a finished tree is what its written form reads as.
 pub worked-reads-back : (form : List ℕ) (u : Tree) (s : Spent) → worked form ≡ done u s → ReadsAs (write u) u

@@ -1,20 +1,20 @@
--- The five sizes of a length's prefix: what the writer writes, and that the reader takes it and nothing else. Assumes nothing.
+-- The five sizes of a length's prefix: what the writer writes, and that the reader takes it, or more bytes that say the same. Assumes nothing.
 use Prim.Native.Nat.{ℕ, suc, _+_, _-_, _*_, _/_, _^_, _≤_, _<_}
 use mathlib.Core.Path.{_≡_, refl, sym, _∙_, subst, ap, ap₂}
 use mathlib.Core.List.{List, [], _∷_, _++_}
 use mathlib.Core.Logic.{_↔_}
 use mathlib.Core.Bool.{true, false, not}
-use lib.Dec.{leb, ltb, T, nltb→le, leb·zero}
-use lib.ListN.{length}
+use lib.Dec.{ltb, T, nltb→le}
+use lib.ListN.{length, length-append}
 use native.Mathlib.Omega.{arith}
 use native.Mathlib.Nat.{div-lt-iff-lt-mul, div-one, one-le-pow}
 use Rattle.refusals.specs.declared.Refusal.the-variants.{BadPrefix}
-use Rattle.meaning.specs.Limits.{atom-cost}
-use Rattle.meaning.specs.Meter.{done, stop, _>>=_, _>>_, give, refuse, hold}
-use Rattle.meaning.specs.Form.{Reading, write-length, write-atom, more, sized, length-from, needs-prefix, IsBytes}
+use Rattle.meaning.specs.Meter.{done, stop, give, refuse}
+use Rattle.meaning.specs.Form.{Reading, write-length, write-atom, needs-prefix, more, length-from, IsBytes}
 use Rattle.meaning.proofs.Tests.{on-bool, not-false, leb-yes, leb-true, leb-no}
-use Rattle.meaning.proofs.MeterLaws.{not-stop, bind-inv, seq-inv, bind-at, seq-at}
-use Rattle.meaning.proofs.ReaderLaws.{at, Took, gave, held, hold-at, digits, more-at, more-inv}
+use Rattle.meaning.proofs.MeterLaws.{not-stop}
+use Rattle.meaning.proofs.ReaderLaws.{at, Took, digits, digits-long, more-at, more-inv}
+use Rattle.meaning.proofs.NoShorter.{NoShorter, exactly, longer, both}
 
 pub ltb-yes : (m n : ℕ) → ltb m n ≡ true → m < n
 ltb-yes m n h = leb-yes (suc m) n h
@@ -99,9 +99,9 @@ write-sized four-more n h =
     rw (not-less n 0x40 (omega arith), not-less n 0x2000 (omega arith), not-less n 0x10_0000 (omega arith), not-less n 0x800_0000 k, div-one n, write-length)
 
 -- the reader, by size
-pub length-sized : (z : Size) (p : ℕ) → Begins z p → (s : Reading) → length-from p s ≡ sized (bytes-more z) (p - from z) (least z) s
-unfolding least firsts bytes-more from length-from sized more hold give _>>=_ _>>_
-length-sized none-more p h s = let l = h .below in rw (less p 0xc0 l, leb·zero (p - 0x80), length-from)
+pub length-sized : (z : Size) (p : ℕ) → Begins z p → (s : Reading) → length-from p s ≡ more (bytes-more z) (p - from z) s
+unfolding firsts bytes-more from length-from more give
+length-sized none-more p h s = let l = h .below in rw (less p 0xc0 l, length-from)
 length-sized one-more p h s = let k = h .enough in let l = h .below in rw (not-less p 0xc0 k, less p 0xe0 l, length-from)
 length-sized two-more p h s = let k = h .enough in let l = h .below in rw (not-less p 0xc0 (omega arith), not-less p 0xe0 k, less p 0xf0 l, length-from)
 length-sized three-more p h s =
@@ -126,13 +126,48 @@ unfolding length-from refuse
 not-carried p k s =
     rw (not-less p 0xc0 (omega arith), not-less p 0xe0 (omega arith), not-less p 0xf0 (omega arith), not-less p 0xf8 (omega arith), not-less p 0xfc k, length-from)
 
-below-all : (z : Size) (n : ℕ) → Says z n → n < 2 ^ 34
+below-all : (z : Size) (n : ℕ) → n < firsts z * 256 ^ bytes-more z → n < 2 ^ 34
 unfolding firsts bytes-more
-below-all none-more n h = let k = h .below in omega arith
-below-all one-more n h = let k = h .below in omega arith
-below-all two-more n h = let k = h .below in omega arith
-below-all three-more n h = let k = h .below in omega arith
-below-all four-more n h = h .below
+below-all none-more n h = omega arith
+below-all one-more n h = omega arith
+below-all two-more n h = omega arith
+below-all three-more n h = omega arith
+below-all four-more n h = h
+
+-- ---- a length that a shorter prefix can say is written in fewer bytes
+
+short-one : (n : ℕ) → n < 0x40 → length (write-length n) ≤ 1
+unfolding write-length
+short-one n h = rw (less n 0x40 h, write-length) (omega arith)
+
+short-two : (n : ℕ) → n < 0x2000 → length (write-length n) ≤ 2
+unfolding write-length
+short-two n h =
+    on-bool (ltb n 0x40)
+    (λ e. let l = short-one n (ltb-yes n _ e) in omega arith)
+    (λ e. rw (e, less n 0x2000 h, write-length) (omega arith))
+
+short-three : (n : ℕ) → n < 0x10_0000 → length (write-length n) ≤ 3
+unfolding write-length
+short-three n h =
+    on-bool (ltb n 0x2000)
+    (λ e. let l = short-two n (ltb-yes n _ e) in omega arith)
+    (λ e. let k = ltb-no n 0x2000 e in rw (not-less n 0x40 (omega arith), e, less n 0x10_0000 h, write-length) (omega arith))
+
+short-four : (n : ℕ) → n < 0x800_0000 → length (write-length n) ≤ 4
+unfolding write-length
+short-four n h =
+    on-bool (ltb n 0x10_0000)
+    (λ e. let l = short-three n (ltb-yes n _ e) in omega arith)
+    (λ e. let k = ltb-no n 0x10_0000 e in rw (not-less n 0x40 (omega arith), not-less n 0x2000 (omega arith), e, less n 0x800_0000 h, write-length) (omega arith))
+
+overlong : (z : Size) (n : ℕ) → n < least z → length (write-length n) ≤ bytes-more z
+unfolding least bytes-more
+overlong none-more n h = absurd (omega arith)
+overlong one-more n h = short-one n h
+overlong two-more n h = short-two n h
+overlong three-more n h = short-three n h
+overlong four-more n h = short-four n h
 
 -- the first byte of a size has room for a length's highest digit where the length is of that size
 quotient : (z : Size) (n : ℕ) → (n / 256 ^ bytes-more z < firsts z) ↔ (n < firsts z * 256 ^ bytes-more z)
@@ -143,36 +178,33 @@ quotient z n = div-lt-iff-lt-mul (one-le-pow (bytes-more z) 256 (omega arith))
 -- the reader has n of n's written prefix
 pub prefix-at : (z : Size) (n : ℕ) (rest : List ℕ) (u : ℕ) → Says z n
     → length-from (from z + n / 256 ^ bytes-more z) (at (digits (bytes-more z) n ++ rest) u) ≡ done n (at rest u)
-unfolding sized give
 prefix-at z n rest u h =
     let q : n / 256 ^ bytes-more z < firsts z = quotient z n .1 (h .below) in
     let e : from z + n / 256 ^ bytes-more z - from z ≡ n / 256 ^ bytes-more z = omega arith in
     length-sized z (from z + n / 256 ^ bytes-more z) (record { enough = omega arith; below = omega arith }) _
-    ∙ ap (λ v. sized (bytes-more z) v (least z) (at (digits (bytes-more z) n ++ rest) u)) e
-    ∙ bind-at (more (bytes-more z) (n / 256 ^ bytes-more z)) (λ n. hold (leb (least z) n) BadPrefix >> give n) _ (at rest u) n (more-at (bytes-more z) n rest u)
-    ∙ seq-at (hold (leb (least z) n) BadPrefix) (give n) (at rest u) (at rest u) tt (hold-at _ BadPrefix (at rest u) (leb-true _ _ (h .enough)))
+    ∙ ap (λ v. more (bytes-more z) v (at (digits (bytes-more z) n ++ rest) u)) e
+    ∙ more-at (bytes-more z) n rest u
 
-sized-inv : (k v least n : ℕ) (s t : Reading) → sized k v least s ≡ done n t → (more k v s ≡ done n t) × (least ≤ n)
-unfolding sized
-sized-inv k v least n s t h =
-    let (m, s1, p1, q1) = bind-inv (more k v) (λ n. hold (leb least n) BadPrefix >> give n) s t n h in
-    let (x, s2, p2, q2) = seq-inv (hold (leb least m) BadPrefix) (give m) s1 t n q1 in
-    let (e, i) = held (leb least m) BadPrefix s1 s2 x p2 in
-    let (j, l) = gave m n s2 t q2 in
-    (p1 ∙ ap₂ done j (i ∙ l), subst (λ z. least ≤ z) j (leb-yes least m e))
-
--- of bytes, the reader has n of n's written prefix alone
+-- of bytes, the reader has n of n's written prefix, or of more bytes than that has
 pub prefix-inv : (p n : ℕ) (s t : Reading) → 0x80 ≤ p → length-from p s ≡ done n t
-    → (ds : List ℕ) × Took ds 0 s t × (IsBytes (s .left) → (p ∷ ds ≡ write-length n) × (n < 2 ^ 34))
+    → (ds : List ℕ) × Took ds 0 s t × (IsBytes (s .left) → NoShorter (write-length n) (p ∷ ds) × (n < 2 ^ 34))
 prefix-inv p n s t k h =
     on-bool (ltb p 0xfc)
     (λ e. go (begins p k (ltb-yes p _ e)))
     (λ e. not-stop (sym (not-carried p (ltb-no p _ e) s) ∙ h))
   where
-    go : (z : Size) × Begins z p → (ds : List ℕ) × Took ds 0 s t × (IsBytes (s .left) → (p ∷ ds ≡ write-length n) × (n < 2 ^ 34))
+    spelled : (z : Size) (ds : List ℕ) → n < firsts z * 256 ^ bytes-more z → ds ≡ digits (bytes-more z) n → p ≡ from z + n / 256 ^ bytes-more z → NoShorter (write-length n) (p ∷ ds)
+    spelled z ds below e f =
+        on-bool (ltb n (least z))
+        (λ i.
+        let l : length (write-length n) ≤ bytes-more z = overlong z n (ltb-yes n _ i) in
+        let m : length ds ≡ bytes-more z = ap length e ∙ digits-long (bytes-more z) n in
+        longer (omega arith))
+        (λ i. exactly (ap₂ _∷_ f e ∙ sym (write-sized z n (record { enough = ltb-no n _ i; below = below }))))
+
+    go : (z : Size) × Begins z p → (ds : List ℕ) × Took ds 0 s t × (IsBytes (s .left) → NoShorter (write-length n) (p ∷ ds) × (n < 2 ^ 34))
     go (z, b) =
-        let (i, enough) = sized-inv (bytes-more z) (p - from z) (least z) n s t (sym (length-sized z p b s) ∙ h) in
-        let (ds, took, are) = more-inv (bytes-more z) (p - from z) n s t i in (
+        let (ds, took, are) = more-inv (bytes-more z) (p - from z) n s t (sym (length-sized z p b s) ∙ h) in (
           ds,
           took,
           λ w.
@@ -180,9 +212,9 @@ prefix-inv p n s t k h =
               let v : p - from z ≡ n / 256 ^ bytes-more z = f in
               let b1 = b .enough in
               let b2 = b .below in
-              let says : Says z n = record { enough = enough; below = quotient z n .0 (omega arith) } in
+              let below : n < firsts z * 256 ^ bytes-more z = quotient z n .0 (omega arith) in
               let p= : p ≡ from z + n / 256 ^ bytes-more z = omega arith in
-              (ap₂ _∷_ p= e ∙ sym (write-sized z n says), below-all z n says),
+              (spelled z ds below e p=, below-all z n below),
         )
 
 -- a written prefix is neither nil's byte nor a pair's, nor an atom by itself
@@ -208,8 +240,18 @@ first-short z n h = go z (quotient z n .1 (h .below))
 -- ---- which atoms have one
 
 -- an atom that needs a prefix is written, and charged, by its length
-pub prefixed : (bs : List ℕ) → needs-prefix bs ≡ true → (write-atom bs ≡ write-length (length bs) ++ bs) × (atom-cost bs ≡ 4 + length bs) × (0 < length bs)
-unfolding needs-prefix write-atom write-length atom-cost
+pub prefixed : (bs : List ℕ) → needs-prefix bs ≡ true → (write-atom bs ≡ write-length (length bs) ++ bs) × (0 < length bs)
+unfolding needs-prefix write-atom write-length
 prefixed [] h = not-false h
-prefixed (x ∷ []) h = let l = leb-yes 0x80 x h in (rw (leb-no (suc x) 0x80 (omega arith), write-atom), refl, omega arith)
-prefixed (x ∷ y ∷ bs) h = (refl, refl, omega arith)
+prefixed (x ∷ []) h = let l = leb-yes 0x80 x h in (rw (leb-no (suc x) 0x80 (omega arith), write-atom), omega arith)
+prefixed (x ∷ y ∷ bs) h = (refl, omega arith)
+
+-- behind any prefix that says its length an atom is no shorter than its written form
+pub behind : (bs w : List ℕ) → NoShorter (write-length (length bs)) w → NoShorter (write-atom bs) (w ++ bs)
+unfolding write-atom write-length
+behind [] w h = both h (exactly refl)
+behind (x ∷ []) w h =
+    on-bool (ltb x 0x80)
+    (λ e. let l = h .long in let m = length-append w (x ∷ []) in rw (e, write-atom) (longer (omega arith)))
+    (λ e. rw (e, write-atom) (both h (exactly refl)))
+behind (x ∷ y ∷ bs) w h = both h (exactly refl)

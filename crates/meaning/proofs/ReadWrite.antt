@@ -1,4 +1,4 @@
--- What is read is the written form of the tree that it gives, and no other bytes. Assumes nothing.
+-- What is read is no shorter than the written form of the tree that it gives, and is that form where it is no longer. Assumes nothing.
 use Prim.Native.Nat.{ℕ, zero, suc, _+_, _^_, _≤_, _<_}
 use mathlib.Core.Path.{_≡_, refl, sym, _∙_, subst, ap, ap₂}
 use mathlib.Core.List.{List, [], _∷_, _++_, append-nil}
@@ -7,63 +7,73 @@ use lib.Dec.{eqb, leb, ltb}
 use lib.ListN.{length}
 use native.Mathlib.Omega.{arith}
 use native.Mathlib.Nat.{add-zero, zero-add}
-use Rattle.refusals.specs.declared.Refusal.the-variants.{AtomLong, BadPrefix, BytesAfter}
+use Rattle.refusals.specs.declared.Refusal.the-variants.{AtomLong, BytesAfter}
 use Rattle.meaning.specs.Tree.{Tree, atom, pair, nil, byte, is-empty}
 use Rattle.meaning.specs.Limits.{form-limit, unit-limit, pair-cost, atom-cost}
 use Rattle.meaning.specs.Meter.{M, done, _>>=_, _>>_, give, hold}
-use Rattle.meaning.specs.Form.{write-length, write-atom, write, Reading, Bounds, limits, no-limits, next, spend, length-from, body, needs-prefix, read-long, read-atom, read, at-end, read-whole, read-form, ReadsAs, EveryAtom, Narrow, Writable, tree-cost, IsBytes}
-use Rattle.meaning.proofs.Tests.{on-bool, not-false, leb-yes, eqb-sound}
+use Rattle.meaning.specs.Form.{write-length, write-atom, write, Reading, Bounds, limits, next, spend, length-from, body, needs-prefix, read-long, read-atom, read, at-end, read-whole, read-form, EveryAtom, Narrow, Writable, tree-cost, IsBytes}
+use Rattle.meaning.proofs.Tests.{on-bool, not-false, leb-yes, leb-true, eqb-sound}
+use Rattle.meaning.proofs.AreBytes.{bytes-none, bytes-cons}
+use Rattle.meaning.proofs.NoShorter.{NoShorter, exactly, both}
 use Rattle.meaning.proofs.TreeLaws.{is-empty-sound}
 use Rattle.meaning.proofs.MeterLaws.{not-stop, bind-inv, seq-inv}
 use Rattle.meaning.proofs.Atoms.{Fits, fits-narrow}
-use Rattle.meaning.proofs.ReaderLaws.{at, Took, took-none, took-then, took-as, took-bytes, gave, held, next-inv, spend-inv, body-inv}
-use Rattle.meaning.proofs.Prefix.{prefix-inv, prefixed, ltb-yes, ltb-no}
+use Rattle.meaning.proofs.ReaderLaws.{at, Took, took-none, took-then, took-as, took-bytes, taken-bytes, gave, held, next-inv, spend-inv, body-inv}
+use Rattle.meaning.proofs.Prefix.{prefix-inv, behind, ltb-yes, ltb-no}
 use Rattle.meaning.proofs.WriteRead.{two-parts}
 
--- from s to t, with `before` in hand, u was read: what was taken of s is, if bytes, the rest of u's written form
+-- of bytes that were read as u: they are no shorter than u's written form, a prefix can say each length, and u's atoms are bytes
+pub record Spelled (u : Tree) (bs : List ℕ) : Type 0 where
+  pub least : NoShorter (write u) bs
+  pub writable : Writable u
+  pub atoms : EveryAtom IsBytes u
+
+-- from s to t, with `before` in hand, u was read: what was taken of s is, if bytes, the rest of a spelling of u
 pub record ReadFrom (b : Bounds) (before : List ℕ) (u : Tree) (s t : Reading) : Type 0 where
   pub taken : List ℕ
   pub took : Took taken (tree-cost u) s t
   pub fits : EveryAtom (Fits b) u
   pub allowed : b .units-fit (s .units) ≡ true → b .units-fit (t .units) ≡ true
-  pub written : IsBytes (s .left) → (before ++ taken ≡ write u) × Writable u
+  pub spelled : IsBytes (s .left) → Spelled u (before ++ taken)
 
 module _ (b : Bounds) where
   -- what is left to do behind a length, and behind a body
-  abbrev to-end : ℕ → List ℕ → M Reading Tree
-  to-end n bs = hold (needs-prefix bs) BadPrefix >> (spend b (4 + n) >> give (atom bs))
+  abbrev to-end : List ℕ → M Reading Tree
+  to-end bs = spend b (atom-cost bs) >> give (atom bs)
 
   abbrev to-body : ℕ → M Reading Tree
-  to-body n = hold (b .atom-fits n) AtomLong >> (body n >>= to-end n)
+  to-body n = hold (b .atom-fits n) AtomLong >> (body n >>= to-end)
 
   -- an atom behind its prefix, from its pieces
-  atom-from : {p n : ℕ} {ds bs : List ℕ} {u : Tree} {s s1 s2 s3 s4 s5 t : Reading} → Took ds 0 s s1 → (IsBytes (s .left) → (p ∷ ds ≡ write-length n) × (n < 2 ^ 34))
-      → (b .atom-fits n ≡ true) × (s1 ≡ s2) → Took bs 0 s2 s3 × (length bs ≡ n) → (needs-prefix bs ≡ true) × (s3 ≡ s4) → Took [] (4 + n) s4 s5 × (b .units-fit (s5 .units) ≡ true)
-      → (atom bs ≡ u) × (s5 ≡ t) → ReadFrom b (p ∷ []) u s t
+  atom-from : {p n : ℕ} {ds bs : List ℕ} {u : Tree} {s s1 s2 s3 s4 t : Reading} → Took ds 0 s s1 → (IsBytes (s .left) → NoShorter (write-length n) (p ∷ ds) × (n < 2 ^ 34))
+      → (b .atom-fits n ≡ true) × (s1 ≡ s2) → Took bs 0 s2 s3 × (length bs ≡ n) → Took [] (atom-cost bs) s3 s4 × (b .units-fit (s4 .units) ≡ true)
+      → (atom bs ≡ u) × (s4 ≡ t) → ReadFrom b (p ∷ []) u s t
   unfolding write EveryAtom Fits Writable tree-cost
-  atom-from {p} {n} {ds} {bs} {s} {t} t1 are (fit, j2) (t3, l3) (np, j4) (t5, k5) (i, j5) =
-      let (w, c, _) = prefixed bs np in
-      let sum : 0 + (0 + (0 + (0 + (4 + n + 0)))) ≡ atom-cost bs = omega arith in
+  atom-from {p} {n} {ds} {bs} {s} {s2} {t} t1 are (fit, j2) (t3, l3) (t4, k4) (i, j4) =
+      let sum : 0 + (0 + (0 + (atom-cost bs + 0))) ≡ atom-cost bs = omega arith in
       let end : ds ++ (bs ++ []) ≡ ds ++ bs = ap (ds ++_) (append-nil bs) in
       subst (λ u. ReadFrom b (p ∷ []) u s t) i (record {
         taken = ds ++ bs;
-        took = took-as end sum (took-then t1 (took-then (took-none j2) (took-then t3 (took-then (took-none j4) (took-then t5 (took-none j5))))));
+        took = took-as end sum (took-then t1 (took-then (took-none j2) (took-then t3 (took-then t4 (took-none j4)))));
         fits = λ _. subst (λ n. b .atom-fits n ≡ true) (sym l3) fit;
-        allowed = λ _. subst (λ (z : Reading). b .units-fit (z .units) ≡ true) j5 k5;
-        written = λ y. let (e, short) = are y in (ap (_++ bs) (e ∙ ap write-length (sym l3)) ∙ sym w, subst (λ n. n < 2 ^ 34) (sym l3) short);
+        allowed = λ _. subst (λ (z : Reading). b .units-fit (z .units) ≡ true) j4 k4;
+        spelled = λ y. let (e, short) = are y in record {
+          least = behind bs (p ∷ ds) (subst (λ n. NoShorter (write-length n) (p ∷ ds)) (sym l3) e);
+          writable = subst (λ n. n < 2 ^ 34) (sym l3) short;
+          atoms = taken-bytes t3 (subst (λ (z : Reading). IsBytes (z .left)) j2 (took-bytes t1 y));
+        };
       })
 
   long-inv : (p : ℕ) (u : Tree) (s t : Reading) → 0x80 ≤ p → read-long b p s ≡ done u t → ReadFrom b (p ∷ []) u s t
   unfolding read-long
   long-inv p u s t lo h =
       let (n, s1, p1, q1) = bind-inv (length-from p) to-body s t u h in
-      let (x2, s2, p2, q2) = seq-inv (hold (b .atom-fits n) AtomLong) (body n >>= to-end n) s1 t u q1 in
-      let (bs, s3, p3, q3) = bind-inv (body n) (to-end n) s2 t u q2 in
-      let (x4, s4, p4, q4) = seq-inv (hold (needs-prefix bs) BadPrefix) (spend b (4 + n) >> give (atom bs)) s3 t u q3 in
-      let (x5, s5, p5, q5) = seq-inv (spend b (4 + n)) (give (atom bs)) s4 t u q4 in
+      let (x2, s2, p2, q2) = seq-inv (hold (b .atom-fits n) AtomLong) (body n >>= to-end) s1 t u q1 in
+      let (bs, s3, p3, q3) = bind-inv (body n) to-end s2 t u q2 in
+      let (x4, s4, p4, q4) = seq-inv (spend b (atom-cost bs)) (give (atom bs)) s3 t u q3 in
       let (ds, t1, are) = prefix-inv p n s s1 lo p1 in
-      atom-from {p = p} {n = n} {ds = ds} {bs = bs} {u = u} {s = s} {s1 = s1} {s2 = s2} {s3 = s3} {s4 = s4} {s5 = s5} {t = t}
-      t1 are (held _ AtomLong s1 s2 x2 p2) (body-inv n bs s2 s3 p3) (held _ BadPrefix s3 s4 x4 p4) (spend-inv b (4 + n) s4 s5 x5 p5) (gave (atom bs) u s5 t q5)
+      atom-from {p = p} {n = n} {ds = ds} {bs = bs} {u = u} {s = s} {s1 = s1} {s2 = s2} {s3 = s3} {s4 = s4} {t = t}
+      t1 are (held _ AtomLong s1 s2 x2 p2) (body-inv n bs s2 s3 p3) (spend-inv b (atom-cost bs) s3 s4 x4 p4) (gave (atom bs) u s4 t q4)
 
   byte-from : {p : ℕ} {u : Tree} {s s1 t : Reading} → ltb p 0x80 ≡ true → Took [] 5 s s1 × (b .units-fit (s1 .units) ≡ true) → (byte p ≡ u) × (s1 ≡ t) → ReadFrom b (p ∷ []) u s t
   unfolding write write-atom EveryAtom Fits Writable tree-cost atom-cost needs-prefix
@@ -72,7 +82,11 @@ module _ (b : Bounds) where
     took = took-as refl (add-zero 5) (took-then t1 (took-none j));
     fits = λ k. let i = leb-yes 0x80 p k in let l = ltb-yes p 0x80 e in absurd (omega arith);
     allowed = λ _. subst (λ (z : Reading). b .units-fit (z .units) ≡ true) j k1;
-    written = λ y. (rw (e, write-atom), omega arith);
+    spelled = λ y. record {
+      least = exactly (rw (e, write-atom));
+      writable = omega arith;
+      atoms = let l = ltb-yes p 0x80 e in bytes-cons p [] (omega arith) bytes-none;
+    };
   })
 
   nil-from : {p : ℕ} {u : Tree} {s t : Reading} → p ≡ 0x80 → (nil ≡ u) × (s ≡ t) → ReadFrom b (p ∷ []) u s t
@@ -82,7 +96,7 @@ module _ (b : Bounds) where
     took = took-none j;
     fits = not-false;
     allowed = subst (λ (z : Reading). b .units-fit (s .units) ≡ true → b .units-fit (z .units) ≡ true) j (λ k. k);
-    written = λ y. (ap (_∷ []) e, omega arith);
+    spelled = λ y. record { least = exactly (ap (_∷ []) e); writable = omega arith; atoms = bytes-none };
   })
 
   atom-inv : (p : ℕ) (u : Tree) (s t : Reading) → read-atom b p s ≡ done u t → ReadFrom b (p ∷ []) u s t
@@ -108,11 +122,15 @@ module _ (b : Bounds) where
         took = took-as (ap (λ z. p ∷ (left .taken ++ z)) (append-nil (right .taken))) sum (took-then t1 (took-then (left .took) (took-then (right .took) (took-then t4 (took-none j)))));
         fits = (left .fits, right .fits);
         allowed = λ _. subst (λ (z : Reading). b .units-fit (z .units) ≡ true) j k4;
-        written = λ y.
+        spelled = λ y.
             let y1 = took-bytes t1 y in
-            let (w1, short1) = left .written y1 in
-            let (w2, short2) = right .written (took-bytes (left .took) y1) in
-            (ap₂ _∷_ e (ap₂ _++_ w1 w2), (short1, short2));
+            let w1 = left .spelled y1 in
+            let w2 = right .spelled (took-bytes (left .took) y1) in
+            record {
+              least = both (exactly (ap (_∷ []) e)) (both (w1 .least) (w2 .least));
+              writable = (w1 .writable, w2 .writable);
+              atoms = (w1 .atoms, w2 .atoms);
+            };
       })
 
   leaf-from : {p : ℕ} {u : Tree} {s s1 t : Reading} → Took (p ∷ []) 0 s s1 → ReadFrom b (p ∷ []) u s1 t → ReadFrom b [] u s t
@@ -121,10 +139,10 @@ module _ (b : Bounds) where
     took = took-as refl (zero-add (tree-cost u)) (took-then t1 (r .took));
     fits = r .fits;
     allowed = λ k. r .allowed (subst (λ n. b .units-fit n ≡ true) (sym (t1 .paid ∙ add-zero (s .units))) k);
-    written = λ y. r .written (took-bytes t1 y);
+    spelled = λ y. r .spelled (took-bytes t1 y);
   }
 
-  -- what the reader takes, if bytes, is the written form of what it gives, and it charges what that costs
+  -- what the reader takes, if bytes, is a spelling of what it gives, and it charges what that costs
   pub read-inv : (k : ℕ) (u : Tree) (s t : Reading) → read b k s ≡ done u t → ReadFrom b [] u s t
   unfolding read
   read-inv zero u s t h = not-stop h
@@ -155,39 +173,34 @@ module _ (b : Bounds) where
 pub whole-charged : (b : Bounds) (bs : List ℕ) (u : ℕ) (t : Tree) (s : Reading) → read-whole b bs u ≡ done t s → s ≡ at [] (u + tree-cost t)
 whole-charged b bs u t s h = let (e, r) = whole-inv b bs u t s h in ap₂ at e (r .took .paid)
 
--- Bytes that are read as a tree, within any bounds, are its written form.
-pub whole-written : (b : Bounds) (bs : List ℕ) (u : ℕ) (t : Tree) (s : Reading) → read-whole b bs u ≡ done t s → IsBytes bs → bs ≡ write t
-whole-written b bs u t s h y =
+-- Bytes that are read as a tree, within any bounds, are a spelling of it.
+pub whole-spelled : (b : Bounds) (bs : List ℕ) (u : ℕ) (t : Tree) (s : Reading) → read-whole b bs u ≡ done t s → IsBytes bs → Spelled t bs
+whole-spelled b bs u t s h y =
     let (e, r) = whole-inv b bs u t s h in
-    r .took .bytes ∙ ap (r .taken ++_) e ∙ append-nil (r .taken) ∙ r .written y .0
+    subst (Spelled t) (sym (r .took .bytes ∙ ap (r .taken ++_) e ∙ append-nil (r .taken))) (r .spelled y)
 
--- what a form within 01's limits reads as
-pub record FormRead (bs : List ℕ) (t : Tree) (s : Reading) : Type 0 where
+-- what a form within 01's limits reads as, from u units on
+pub record FormRead (bs : List ℕ) (u : ℕ) (t : Tree) (s : Reading) : Type 0 where
   pub short : length bs ≤ form-limit
   pub narrow : Narrow t
-  pub cheap : tree-cost t ≤ unit-limit
-  pub after : s ≡ record { left = []; units = tree-cost t }
-  pub written : IsBytes bs → write t ≡ bs
+  pub cheap : u ≤ unit-limit → u + tree-cost t ≤ unit-limit
+  pub after : s ≡ record { left = []; units = u + tree-cost t }
+  pub whole : read-whole limits bs u ≡ done t s
 
--- Within 01's limits: a form that is read is within them, and writing what was read gives its bytes back.
-pub form-read : (bs : List ℕ) (t : Tree) (s : Reading) → read-form bs 0 ≡ done t s → FormRead bs t s
+-- Within 01's limits: a form that is read is within them.
+pub form-read : (bs : List ℕ) (u : ℕ) (t : Tree) (s : Reading) → read-form bs u ≡ done t s → FormRead bs u t s
 unfolding read-form
-form-read bs t s h =
+form-read bs u t s h =
     on-bool (leb (length bs) form-limit)
     (λ e.
-    let h′ : read-whole limits bs 0 ≡ done t s = rw (e, read-form) at h in
-    let (l, r) = whole-inv limits bs 0 t s h′ in
-    let after : s ≡ at [] (tree-cost t) = whole-charged limits bs 0 t s h′ ∙ ap (at []) (zero-add (tree-cost t)) in
+    let h′ : read-whole limits bs u ≡ done t s = rw (e, read-form) at h in
+    let (l, r) = whole-inv limits bs u t s h′ in
+    let after : s ≡ at [] (u + tree-cost t) = whole-charged limits bs u t s h′ in
     record {
       short = leb-yes _ _ e;
       narrow = fits-narrow t (r .fits);
-      cheap = leb-yes _ _ (subst (λ (z : Reading). leb (z .units) unit-limit ≡ true) after (r .allowed refl));
+      cheap = λ k. leb-yes _ _ (subst (λ (z : Reading). leb (z .units) unit-limit ≡ true) after (r .allowed (leb-true _ _ k)));
       after = after;
-      written = λ y. sym (whole-written limits bs 0 t s h′ y);
+      whole = h′;
     })
     (λ e. not-stop (rw (e, read-form) at h))
-
--- Without limits: bytes that read as a tree are its written form, and a prefix can say each of its lengths.
-pub reads-as-only : (bs : List ℕ) (t : Tree) → ReadsAs bs t → IsBytes bs → (bs ≡ write t) × Writable t
-unfolding ReadsAs
-reads-as-only bs t (s, h) y = (whole-written no-limits bs 0 t s h y, whole-inv no-limits bs 0 t s h .1 .written y .1)

@@ -10,18 +10,8 @@ use Rattle.refusals.specs.declared.Refusal.{Refusal}
 use Rattle.meaning.specs.Meter.{done, _>>=_, give, hold}
 use Rattle.meaning.specs.Form.{Reading, Bounds, first-of, next, more, body, spend, IsBytes}
 use Rattle.meaning.proofs.Tests.{on-bool}
+use Rattle.meaning.proofs.AreBytes.{bytes-first, bytes-before, bytes-after}
 use Rattle.meaning.proofs.MeterLaws.{not-stop, bind-inv, bind-at}
-
--- ---- bytes
-
-first-byte : (b : ℕ) (l : List ℕ) → IsBytes (b ∷ l) → b < 256
-unfolding IsBytes
-first-byte b l h = h 0
-
-bytes-after : (k l : List ℕ) → IsBytes (k ++ l) → IsBytes l
-unfolding IsBytes
-bytes-after [] l h = h
-bytes-after (x ∷ k) l h = bytes-after k l (λ i. h (suc i))
 
 -- ---- what a step takes
 
@@ -49,9 +39,12 @@ took-then {k} {l} {c} {d} {s} {t} {u} p q = record {
 pub took-as : {k l : List ℕ} {c d : ℕ} {s t : Reading} → k ≡ l → c ≡ d → Took k c s t → Took l d s t
 took-as {k} {d} {s} {t} e f p = subst (λ z. Took z d s t) e (subst (λ z. Took k z s t) f p)
 
--- what is left of bytes is bytes
+-- what is left of bytes is bytes, and so is what was taken
 pub took-bytes : {l : List ℕ} {c : ℕ} {s t : Reading} → Took l c s t → IsBytes (s .left) → IsBytes (t .left)
 took-bytes {l} {t} p h = bytes-after l (t .left) (subst IsBytes (p .bytes) h)
+
+pub taken-bytes : {l : List ℕ} {c : ℕ} {s t : Reading} → Took l c s t → IsBytes (s .left) → IsBytes l
+taken-bytes {l} {t} p h = bytes-before l (t .left) (subst IsBytes (p .bytes) h)
 
 pub gave : {S A : Type 0} (a b : A) (s t : S) → give a s ≡ done b t → (a ≡ b) × (s ≡ t)
 unfolding give
@@ -121,6 +114,11 @@ unfoldable pub digits : ℕ → ℕ → List ℕ
 digits zero n = []
 digits (suc k) n = n / 256 ^ k % 256 ∷ digits k n
 
+pub digits-long : (k n : ℕ) → length (digits k n) ≡ k
+unfolding digits
+digits-long zero n = refl
+digits-long (suc k) n = ap suc (digits-long k n)
+
 shift : (n k : ℕ) → n / 256 ^ suc k ≡ n / 256 ^ k / 256
 shift n k = ap (λ z. n / z) (pow-suc 256 k) ∙ sym (div-div-eq-div-mul n (256 ^ k) 256)
 
@@ -144,7 +142,7 @@ more-inv (suc k) v n s t h =
       b ∷ ds,
       took-then o i,
       λ w.
-          let b< : b < 256 = first-byte b (s1 .left) (subst IsBytes (o .bytes) w) in
+          let b< : b < 256 = bytes-first b (s1 .left) (subst IsBytes (o .bytes) w) in
           let (e, f) = j (took-bytes o w) in
           let f′ : v * 256 + b ≡ n / 256 ^ k = f in
           let g : n / 256 ^ suc k ≡ n / 256 ^ k / 256 = shift n k in

@@ -8,7 +8,7 @@ use lib.Dec.{eqb, ltb}
 use lib.ListN.{length, length-append}
 use native.Mathlib.Omega.{arith}
 use native.Mathlib.Nat.{add-zero, zero-add}
-use Rattle.refusals.specs.declared.Refusal.the-variants.{AtomLong, BadPrefix}
+use Rattle.refusals.specs.declared.Refusal.the-variants.{AtomLong}
 use Rattle.meaning.specs.Tree.{Tree, atom, pair, nil, byte, is-empty}
 use Rattle.meaning.specs.Limits.{form-limit, unit-limit, pair-cost, atom-cost}
 use Rattle.meaning.specs.Meter.{M, done, _>>=_, _>>_, give, hold}
@@ -36,15 +36,14 @@ written-atom (x ∷ y ∷ bs) = let e = length-append (write-length (length (x �
 
 module _ (b : Bounds) where
   -- a prefix that says the length of bs, and then bs
-  long-at : (p : ℕ) (bs tail rest : List ℕ) (u : ℕ) → length-from p (at tail u) ≡ done (length bs) (at (bs ++ rest) u) → needs-prefix bs ≡ true → Fits b bs
-      → b .units-fit (u + (4 + length bs)) ≡ true → read-long b p (at tail u) ≡ done (atom bs) (at rest (u + (4 + length bs)))
-  unfolding read-long Fits give
-  long-at p bs tail rest u h np fits room =
+  long-at : (p : ℕ) (bs tail rest : List ℕ) (u : ℕ) → length-from p (at tail u) ≡ done (length bs) (at (bs ++ rest) u) → b .atom-fits (length bs) ≡ true
+      → b .units-fit (u + atom-cost bs) ≡ true → read-long b p (at tail u) ≡ done (atom bs) (at rest (u + atom-cost bs))
+  unfolding read-long give
+  long-at p bs tail rest u h fits room =
       bind-at (length-from p) _ (at tail u) (at (bs ++ rest) u) (length bs) h
-      ∙ seq-at (hold (b .atom-fits (length bs)) AtomLong) _ (at (bs ++ rest) u) (at (bs ++ rest) u) tt (hold-at _ AtomLong _ (fits np))
+      ∙ seq-at (hold (b .atom-fits (length bs)) AtomLong) _ (at (bs ++ rest) u) (at (bs ++ rest) u) tt (hold-at _ AtomLong _ fits)
       ∙ bind-at (body (length bs)) _ (at (bs ++ rest) u) (at rest u) bs (body-at bs rest u)
-      ∙ seq-at (hold (needs-prefix bs) BadPrefix) _ (at rest u) (at rest u) tt (hold-at _ BadPrefix _ np)
-      ∙ seq-at (spend b (4 + length bs)) _ (at rest u) (at rest (u + (4 + length bs))) tt (spend-at b _ rest u room)
+      ∙ seq-at (spend b (atom-cost bs)) _ (at rest u) (at rest (u + atom-cost bs)) tt (spend-at b _ rest u room)
 
   -- a first byte that starts no pair
   leaf : (k p : ℕ) (tail : List ℕ) (u : ℕ) → p ≢ 0xff → read b (suc k) (at (p ∷ tail) u) ≡ read-atom b p (at tail u)
@@ -62,9 +61,9 @@ module _ (b : Bounds) where
   -- any other atom has its prefix before it
   prefixed-at : (k : ℕ) (bs rest : List ℕ) (u : ℕ) → needs-prefix bs ≡ true → Fits b bs → length bs < 2 ^ 34 → b .units-fit (u + atom-cost bs) ≡ true
       → read b (suc k) (at (write-atom bs ++ rest) u) ≡ done (atom bs) (at rest (u + atom-cost bs))
-  unfolding read-atom
+  unfolding read-atom Fits
   prefixed-at k bs rest u np fits short room =
-      let (w, c, pos) = prefixed bs np in
+      let (w, pos) = prefixed bs np in
       let (z, says) = size-of (length bs) short in
       let p : ℕ = from z + length bs / 256 ^ bytes-more z in
       let ds : List ℕ = digits (bytes-more z) (length bs) in
@@ -76,8 +75,7 @@ module _ (b : Bounds) where
       ∙ ap (λ l. read b (suc k) (at (p ∷ l) u)) (append-assoc ds bs rest)
       ∙ leaf k p (ds ++ (bs ++ rest)) u not-pair
       ∙ rw (leb-no (suc p) 0x80 (omega arith), eqb-off p 0x80 not-nil, read-atom)
-      (long-at p bs (ds ++ (bs ++ rest)) rest u (prefix-at z (length bs) (bs ++ rest) u says) np fits (subst (λ c. b .units-fit (u + c) ≡ true) c room))
-      ∙ ap (λ c. done (atom bs) (at rest (u + c))) (sym c)
+      (long-at p bs (ds ++ (bs ++ rest)) rest u (prefix-at z (length bs) (bs ++ rest) u says) (fits np) room)
 
   atom-at : (k : ℕ) (bs rest : List ℕ) (u : ℕ) → Fits b bs → length bs < 2 ^ 34 → b .units-fit (u + atom-cost bs) ≡ true
       → read b (suc k) (at (write-atom bs ++ rest) u) ≡ done (atom bs) (at rest (u + atom-cost bs))
@@ -120,14 +118,18 @@ module _ (b : Bounds) where
       bind-at (read b (length (write t))) (λ t. at-end >> give t) (at (write t) u) (at [] (u + tree-cost t)) t
       (ap (λ l. read b (length (write t)) (at l u)) (sym (append-nil (write t))) ∙ read-write t (length (write t)) [] u fits short room (omega arith))
 
--- Within 01's limits a tree that fits them is read back from its written form, at what it costs.
+-- Within 01's limits a tree that fits them is read back from its written form, at what it costs, from any units on
+pub form-write-from : (t : Tree) (u : ℕ) → length (write t) ≤ form-limit → Narrow t → u + tree-cost t ≤ unit-limit
+    → read-form (write t) u ≡ done t (at [] (u + tree-cost t))
+unfolding read-form UnitsFit
+form-write-from t u short narrow cheap =
+    rw (leb-true _ _ short, read-form)
+    (whole-write limits t u (narrow-fits t narrow) (narrow-writable t narrow) (λ m n. leb-true m unit-limit (omega arith)))
+
+-- and from none.
 pub form-write : (t : Tree) → length (write t) ≤ form-limit → Narrow t → tree-cost t ≤ unit-limit
     → read-form (write t) 0 ≡ done t (record { left = []; units = tree-cost t })
-unfolding read-form UnitsFit
-form-write t short narrow cheap =
-    rw (leb-true _ _ short, read-form)
-    (whole-write limits t 0 (narrow-fits t narrow) (narrow-writable t narrow) (λ m n. leb-true m unit-limit (omega arith))
-    ∙ ap (λ c. done t (at [] c)) (zero-add (tree-cost t)))
+form-write t short narrow cheap = form-write-from t 0 short narrow (omega arith) ∙ ap (λ c. done t (at [] c)) (zero-add (tree-cost t))
 
 -- Without limits every tree is read back from its written form, where a prefix can say each length.
 pub reads-as-written : (t : Tree) → Writable t → ReadsAs (write t) t

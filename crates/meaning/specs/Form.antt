@@ -1,4 +1,4 @@
--- Document 01, "Serialised form": the one written form of a tree, and reading it.
+-- Document 01, "Serialised form", with 02's Ask 3: the shortest form of a tree, which is written, and reading it in any spelling.
 use Prim.Native.Nat.{ℕ, zero, suc, _+_, _-_, _*_, _/_, _%_, _^_, _≤_, _<_}
 use mathlib.Core.Path.{_≡_}
 use mathlib.Core.List.{List, [], _∷_, _++_}
@@ -35,6 +35,12 @@ unfolding write-length
 write-atom [] = 0x80 ∷ []
 write-atom (x ∷ []) = elim (ltb x 0x80) [ true ↦ x ∷ [] | false ↦ 0x81 ∷ x ∷ [] ]
 write-atom (x ∷ y ∷ bs) = write-length (length (x ∷ y ∷ bs)) ++ (x ∷ y ∷ bs)
+
+-- these are written behind their length: any but nil and a byte below `80`
+unfoldable pub needs-prefix : List ℕ → Bool
+needs-prefix [] = false
+needs-prefix (x ∷ []) = leb 0x80 x
+needs-prefix (x ∷ y ∷ bs) = true
 
 -- "`ff` starts a pair: left part, then right part"
 unfoldable pub write : Tree → List ℕ
@@ -76,28 +82,20 @@ unfolding next give _>>=_
 more zero v = give v
 more (suc k) v = next >>= λ b. more k (v * 256 + b)
 
--- a length of k bytes more; one that a shorter prefix can say is overlong
-unfoldable pub sized : ℕ → ℕ → ℕ → M Reading ℕ
-unfolding more hold give _>>=_ _>>_
-sized k v least = do
-  n ← more k v
-  hold (leb least n) BadPrefix
-  give n
-
--- the length that a prefix from `80` on says; "`fc`, `fd`, `fe` count as having no more prefix bytes and aren't carried"
+-- "any length prefix from `81` to `fb` with whatever length it states"; "`fc`, `fd`, `fe` count as having no more prefix bytes and aren't carried"
 unfoldable pub length-from : ℕ → M Reading ℕ
-unfolding sized refuse give
+unfolding more refuse give
 length-from b =
     elim (ltb b 0xc0) [
       | true ↦ give (b - 0x80)
       | false ↦ elim (ltb b 0xe0) [
-        | true ↦ sized 1 (b - 0xc0) 0x40
+        | true ↦ more 1 (b - 0xc0)
         | false ↦ elim (ltb b 0xf0) [
-          | true ↦ sized 2 (b - 0xe0) 0x2000
+          | true ↦ more 2 (b - 0xe0)
           | false ↦ elim (ltb b 0xf8) [
-            | true ↦ sized 3 (b - 0xf0) 0x10_0000
+            | true ↦ more 3 (b - 0xf0)
             | false ↦ elim (ltb b 0xfc) [
-              | true ↦ sized 4 (b - 0xf8) 0x800_0000
+              | true ↦ more 4 (b - 0xf8)
               | false ↦ refuse BadPrefix
             ]
           ]
@@ -114,12 +112,6 @@ body (suc n) = do
   bs ← body n
   give (b ∷ bs)
 
--- "`81` before a body byte below `80`" is refusal 4: that byte is written alone
-unfoldable pub needs-prefix : List ℕ → Bool
-needs-prefix [] = false
-needs-prefix (x ∷ []) = leb 0x80 x
-needs-prefix (x ∷ y ∷ bs) = true
-
 module _ (b : Bounds) where
   -- refusal 7, at the reader
   unfoldable pub spend : ℕ → M Reading (Unit {0})
@@ -128,15 +120,14 @@ module _ (b : Bounds) where
     | false ↦ stop UnitsOut (record { left = s .left; units = unit-limit })
   ]
 
-  -- "At one atom: missing prefix bytes 3; bad prefix or overlong length 4; over 64 bytes 5; missing body 3; `81` before a body byte below `80` 4; units 7"
+  -- 01's order at one atom, without what 02 takes out of it: missing prefix bytes 3; bad prefix 4; over 64 bytes 5; missing body 3; units 7
   unfoldable pub read-long : ℕ → M Reading Tree
-  unfolding length-from hold body needs-prefix spend give _>>=_ _>>_
+  unfolding length-from hold body spend atom-cost give _>>=_ _>>_
   read-long p = do
     n ← length-from p
     hold (b .atom-fits n) AtomLong
     bs ← body n
-    hold (needs-prefix bs) BadPrefix
-    spend (4 + n)
+    spend (atom-cost bs)
     give (atom bs)
 
   unfoldable pub read-atom : ℕ → M Reading Tree
@@ -188,6 +179,11 @@ ReadsAs bs t = (s : Reading) × (read-whole no-limits bs 0 ≡ done t s)
 -- every one is below 256 (past the end stands 0)
 unfoldable pub IsBytes : List ℕ → Type 0
 IsBytes l = (i : ℕ) → getD l i 0 < 256
+
+-- "they were shortest": whatever tree the bytes read as, no fewer bytes read as it
+unfoldable pub Shortest : List ℕ → Type 0
+unfolding ReadsAs IsBytes
+Shortest bs = (t : Tree) → ReadsAs bs t → (cs : List ℕ) → IsBytes cs → ReadsAs cs t → length bs ≤ length cs
 
 -- P holds of the bytes of every atom
 unfoldable pub EveryAtom : (List ℕ → Type 0) → Tree → Type 0

@@ -3,6 +3,7 @@ pub mod Number
 pub mod Limits
 pub mod Meter
 pub mod Form
+pub mod Strict
 pub mod Operator
 pub mod Evaluate
 pub mod Match

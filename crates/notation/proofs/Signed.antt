@@ -11,6 +11,7 @@ use lib.ListN.{length}
 use Rattle.meaning.specs.Number.{Signed, plus, minus, number-from, number, negative, number-from-u8, bytes-onto, bytes-of}
 use Rattle.meaning.specs.Form.{IsBytes}
 use Rattle.meaning.proofs.Tests.{on-bool, not-false}
+use Rattle.meaning.proofs.AreBytes.{bytes-none, bytes-cons}
 use Rattle.meaning.proofs.BytesOf.{number-bytes-of}
 use Rattle.notation.specs.Words.{with-sign, turned-over, signed-bytes}
 
@@ -57,20 +58,11 @@ high-least (b ∷ bs) e =
 
 -- ---- the shortest unsigned bytes
 
-bytes-more : (b : ℕ) (bs : List ℕ) → b < 256 → IsBytes bs → IsBytes (b ∷ bs)
-unfolding IsBytes
-bytes-more b bs l h zero = l
-bytes-more b bs l h (suc i) = h i
-
-bytes-none : IsBytes []
-unfolding IsBytes
-bytes-none i = omega arith
-
 onto-bytes : (k n : ℕ) (bs : List ℕ) → IsBytes bs → IsBytes (bytes-onto k n bs)
 unfolding bytes-onto
 onto-bytes zero n bs h = h
 onto-bytes (suc k) n bs h =
-    on-bool (leb n 0) (λ e. rw (e, bytes-onto) h) (λ e. rw (e, bytes-onto) (onto-bytes k (n / 256) (n % 256 ∷ bs) (bytes-more (n % 256) bs (omega arith) h)))
+    on-bool (leb n 0) (λ e. rw (e, bytes-onto) h) (λ e. rw (e, bytes-onto) (onto-bytes k (n / 256) (n % 256 ∷ bs) (bytes-cons (n % 256) bs (omega arith) h)))
 
 -- the first byte is not 0
 Leads : List ℕ → Type 0
@@ -101,7 +93,7 @@ record Magnitude (n : ℕ) (w : List ℕ) : Type 0 where
 
 behind-zero : (n : ℕ) (bs : List ℕ) → IsBytes bs → number bs ≡ n → negative bs ≡ true → Magnitude n (0 ∷ bs)
 unfolding number number-from negative Tight
-behind-zero n bs h e i = record { bytes = bytes-more 0 bs (omega arith) h; is = e; low = refl; tight = let l = high-least bs i .0 in omega arith }
+behind-zero n bs h e i = record { bytes = bytes-cons 0 bs (omega arith) h; is = e; low = refl; tight = let l = high-least bs i .0 in omega arith }
 
 tight-bare : (n : ℕ) (bs : List ℕ) → Leads bs → number bs ≡ n → Tight n bs
 unfolding Leads Tight number number-from
@@ -129,7 +121,7 @@ turned-length (b ∷ bs) = ap suc (turned-length bs)
 turned-bytes : (bs : List ℕ) → IsBytes (turned-over bs)
 unfolding turned-over
 turned-bytes [] = bytes-none
-turned-bytes (b ∷ bs) = bytes-more (255 - b) (turned-over bs) (omega arith) (turned-bytes bs)
+turned-bytes (b ∷ bs) = bytes-cons (255 - b) (turned-over bs) (omega arith) (turned-bytes bs)
 
 -- a number and the one turned over add up to all bits set
 turned-sum : (m n : ℕ) (bs : List ℕ) → IsBytes bs → number-from m (turned-over bs) + number-from n bs + 1 ≡ (m + n + 1) * 256 ^ length bs
@@ -175,7 +167,7 @@ pub signed-are-bytes : (s : Signed) → IsBytes (signed-bytes s)
 unfolding signed-bytes
 signed-are-bytes (plus n) = magnitude n .bytes
 signed-are-bytes (minus zero) = bytes-none
-signed-are-bytes (minus (suc zero)) = bytes-more 255 [] (omega arith) bytes-none
+signed-are-bytes (minus (suc zero)) = bytes-cons 255 [] (omega arith) bytes-none
 signed-are-bytes (minus (suc (suc n))) = turned-bytes (with-sign (bytes-of (suc n)))
 
 plus-most : (bs : List ℕ) (n : ℕ) → IsBytes bs → number-from-u8 bs ≡ plus n → 2 * n + 1 ≤ 256 ^ length bs

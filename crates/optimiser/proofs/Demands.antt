@@ -56,7 +56,7 @@ module _ (form room out room′ out′ : List ℕ) where
   demand-1-small a h l = only-one form room out room′ room out′ out a (Refused RoomSmall) h (optimise-small form room out l)
 
   -- ---- Demand 2. "The finished tree, and each failure, is the Rust's", as the definitions have it. (That the definitions are the Rust's is
-  -- compared by running. Writing a form just read gives back its bytes: crates/meaning/proofs/Demands.antt, and the contracts of crates/form.)
+  -- compared by running. Writing and reading again: crates/meaning/proofs/Demands.antt, and of the function `write` crates/form/proofs/Back.antt.)
 
   -- The whole outcome is the definition's: the answer, the output and the room.
   pub demand-2-exact : (a : Answer) (o : Outcome) → run form (length room) (length out) ≡ o → Optimised form room out a room′ out′

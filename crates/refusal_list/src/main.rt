@@ -12,10 +12,7 @@ fn reading() {
     line(Refusal::RoomSmall, b"lent working room too small");
     line(Refusal::FormLong, b"form over 8,192 bytes");
     line(Refusal::EndsEarly, b"form ends early; the empty form too");
-    line(
-        Refusal::BadPrefix,
-        b"prefix not carried, or not the shortest form",
-    );
+    line(Refusal::BadPrefix, b"prefix not carried: fc, fd or fe");
     line(Refusal::AtomLong, b"atom over 64 bytes");
     line(Refusal::BytesAfter, b"bytes after the form");
 }

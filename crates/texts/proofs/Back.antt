@@ -18,7 +18,7 @@ use Rattle.form.specs.Bytes.{write-outcome, write-says}
 use Rattle.form.proofs.Back.{WasRead}
 use Rattle.notation.specs.Texts.{text-of}
 use Rattle.texts.specs.Outcomes.{deliver-text, read-text-outcome, delivered-text, write-text-outcome}
-use Rattle.texts.proofs.RoundTrip.{text-again}
+use Rattle.texts.proofs.RoundTrip.{round-trip}
 
 -- what `write_text` tells of a tree
 abbrev told-of : Tree → Reading → List ℕ
@@ -54,4 +54,4 @@ module _ (form room out room′ out′ : List ℕ) (b : IsBytes form) where
       let j : n ≡ length (text-of (w .tree)) = cc in
       let l : length (a .bytes) ≡ n = ap length (w .bytes-are) ∙ sym j in
       let t : take n out′ ≡ text-of (w .tree) = ap (λ (z : ℕ). take z out′) (sym l) ∙ a .front ∙ w .bytes-are in
-      rw (t, text-again form b (w .tree) (w .after) (w .is) 0)
+      rw (t, round-trip form b (w .tree) (w .after) 0 (omega arith) (w .is), w .is)

@@ -1,8 +1,9 @@
 //! Damaged copies of code forms: what the reader must refuse lies one byte away from what it must take.
-//! Cut, lengthened, one byte changed, a prefix longer than needed, an atom too wide, a prefix in a wrong place.
+//! Cut, lengthened, one byte changed, an atom too wide, a prefix in a wrong place; and a prefix longer than needed, which is taken.
 
 use crate::code;
 use crate::options::Options;
+use crate::prefixes::{greatest, put_prefix};
 use crate::random::Random;
 use crate::sink::Sink;
 use crate::tree::*;
@@ -39,35 +40,17 @@ fn damaged(random: &mut Random) -> (&'static str, Vec<u8>) {
     }
 }
 
-type WriteAtom<'a> = dyn FnMut(&mut Random, &[u8], &mut Vec<u8>) + 'a;
+type WriteOther<'a> = dyn FnMut(&mut Random, &[u8], &mut Vec<u8>) + 'a;
 
 /// The form with one of its atoms written in another way.
-fn with_one_atom(random: &mut Random, tree: &Tree, other: &mut WriteAtom) -> Vec<u8> {
-    let mut before = random.below(leaves(tree)) as isize;
-    let mut out = Vec::new();
-    write_with(random, tree, &mut before, other, &mut out);
+fn with_one_atom(random: &mut Random, tree: &Tree, other: &mut WriteOther) -> Vec<u8> {
+    let chosen = random.below(leaves(tree));
+    let (mut out, mut number) = (Vec::new(), 0);
+    write_by(tree, &mut out, &mut |bytes, out| {
+        if number == chosen { other(random, bytes, out) } else { write_atom(bytes, out) }
+        number += 1;
+    });
     out
-}
-
-fn leaves(tree: &Tree) -> usize {
-    match tree {
-        Tree::Atom(_) => 1,
-        Tree::Pair(left, right) => leaves(left) + leaves(right),
-    }
-}
-
-fn write_with(random: &mut Random, tree: &Tree, before: &mut isize, other: &mut WriteAtom, out: &mut Vec<u8>) {
-    match tree {
-        Tree::Atom(bytes) => {
-            if *before == 0 { other(random, bytes, out) } else { write_atom(bytes, out) }
-            *before -= 1;
-        }
-        Tree::Pair(left, right) => {
-            out.push(0xff);
-            write_with(random, left, before, other, out);
-            write_with(random, right, before, other, out);
-        }
-    }
 }
 
 /// The atom lengthened to about the limit of 64 bytes and past it, with its whole body or a part of it.
@@ -82,12 +65,9 @@ fn write_long(random: &mut Random, bytes: &[u8], out: &mut Vec<u8>) {
     out.extend(written);
 }
 
-/// A prefix of `spare` bytes more than the first, whether the length needs them or not.
+/// A prefix of `spare` bytes more than the first, whether the length needs them or not; the greatest length where they are too few.
 fn write_wide(bytes: &[u8], spare: usize, out: &mut Vec<u8>) {
-    const FIRST: [u8; 5] = [0x80, 0xc0, 0xe0, 0xf0, 0xf8];
-    let length = (bytes.len() as u32).to_be_bytes();
-    out.push(FIRST[spare] | if spare == 0 { (bytes.len() as u8).min(0x3f) } else { 0 });
-    out.extend(&length[4 - spare..]);
+    put_prefix(spare, greatest(spare).min(bytes.len() as u64), out);
     out.extend(bytes);
 }
 

@@ -14,7 +14,7 @@ pub fn print(options: &Options, sink: &mut Sink) {
     }
 }
 
-fn form(random: &mut Random) -> Tree {
+pub fn form(random: &mut Random) -> Tree {
     let target = random.between(1000, 3900);
     let mut parts = vec![];
     let mut size = 3;

@@ -9,6 +9,7 @@ mod decimal;
 mod deep;
 mod kept;
 mod large;
+mod lengths;
 mod limits;
 pub mod options;
 mod pairs_deep;
@@ -16,6 +17,7 @@ mod pairs_eval;
 mod pairs_match;
 mod pairs_place;
 mod paths;
+mod prefixes;
 pub mod random;
 mod repeats;
 mod rules;
@@ -23,6 +25,7 @@ mod shared;
 pub mod sink;
 mod small;
 mod sound;
+mod spelled;
 mod spelling;
 mod texts_border;
 mod texts_bytes;
@@ -46,11 +49,13 @@ pub fn print(options: &Options, sink: &mut Sink) -> bool {
         "kept" => kept::print(options, sink),
         "damaged" => damaged::print(options, sink),
         "deep" => deep::print(sink),
+        "lengths" => lengths::print(sink),
         "limits" => limits::print(sink),
         "repeats" => repeats::print(sink),
         "wide" => wide::print(sink),
         "large" => large::print(options, sink),
         "shared" => shared::print(options, sink),
+        "spelled" => spelled::print(options, sink),
         "rule-1" => rules::print(1, options, sink),
         "rule-2" => rules::print(2, options, sink),
         "rule-3" => rules::print(3, options, sink),

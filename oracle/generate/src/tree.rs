@@ -72,6 +72,13 @@ pub fn units(tree: &Tree) -> usize {
     }
 }
 
+pub fn leaves(tree: &Tree) -> usize {
+    match tree {
+        Tree::Atom(_) => 1,
+        Tree::Pair(left, right) => leaves(left) + leaves(right),
+    }
+}
+
 pub fn write(tree: &Tree) -> Vec<u8> {
     let mut out = Vec::new();
     write_to(tree, &mut out);
@@ -79,14 +86,22 @@ pub fn write(tree: &Tree) -> Vec<u8> {
 }
 
 pub fn write_to(tree: &Tree, out: &mut Vec<u8>) {
+    write_by(tree, out, &mut write_atom);
+}
+
+/// Writes an atom in one way or another.
+pub type WriteAtom<'a> = dyn FnMut(&[u8], &mut Vec<u8>) + 'a;
+
+/// The form, its atoms as `atom` writes them, from the first to the last.
+pub fn write_by(tree: &Tree, out: &mut Vec<u8>, atom: &mut WriteAtom) {
     let mut rest = tree;
     while let Tree::Pair(left, right) = rest {
         out.push(0xff);
-        write_to(left, out);
+        write_by(left, out, atom);
         rest = right;
     }
     if let Tree::Atom(bytes) = rest {
-        write_atom(bytes, out);
+        atom(bytes, out);
     }
 }
 

@@ -1,4 +1,7 @@
 //! The serialised form: a reader with its refusals. (The writer stands beside the store, since a trace needs it there.)
+//!
+//! A length may be spelled with more prefix bytes than it needs, and a byte below 80 with a prefix (document 02, "Ask 3"): the tree is
+//! the same, and so is what it costs. Only the writer is held to the shortest spelling.
 
 use clvm_rs::allocator::{Allocator, NodePtr};
 use clvm_rs::error::EvalErr;
@@ -36,20 +39,17 @@ fn read_tree(store: &mut Allocator, form: &[u8], place: &mut usize) -> Refusable
         let right = read_tree(store, form, place)?;
         return store.new_pair(left, right);
     }
-    if first == 0x80 {
-        return Ok(NodePtr::NIL);
-    }
     if first < 0x80 {
         return store.new_atom(&[first]);
     }
 
-    // The bits of the length in the first byte, the bytes after it, and the least length that needs so many.
-    let (bits, more, least) = match first {
-        0x81..=0xbf => (0x3f, 0, 1),
-        0xc0..=0xdf => (0x1f, 1, 0x40),
-        0xe0..=0xef => (0x0f, 2, 0x2000),
-        0xf0..=0xf7 => (0x07, 3, 0x10_0000),
-        0xf8..=0xfb => (0x03, 4, 0x800_0000),
+    // The bits of the length in the first byte, and how many bytes more it has.
+    let (bits, more) = match first {
+        0x80..=0xbf => (0x3f, 0),
+        0xc0..=0xdf => (0x1f, 1),
+        0xe0..=0xef => (0x0f, 2),
+        0xf0..=0xf7 => (0x07, 3),
+        0xf8..=0xfb => (0x03, 4),
         _ => return refuse(4),
     };
     let mut length = (first & bits) as u64;
@@ -60,9 +60,6 @@ fn read_tree(store: &mut Allocator, form: &[u8], place: &mut usize) -> Refusable
         *place += 1;
         length = length << 8 | byte as u64;
     }
-    if length < least {
-        return refuse(4);
-    }
     if length > ATOM as u64 {
         return refuse(5);
     }
@@ -70,10 +67,8 @@ fn read_tree(store: &mut Allocator, form: &[u8], place: &mut usize) -> Refusable
     let Some(body) = form.get(*place..end) else {
         return refuse(3);
     };
-    if length == 1 && body[0] < 0x80 {
-        return refuse(4);
-    }
     *place = end;
+    // No bytes, however that is spelled, are nil, and nil is free.
     store.new_atom(body)
 }
 

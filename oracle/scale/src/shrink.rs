@@ -1,36 +1,44 @@
 //! Makes a form on which something fails smaller, for as long as it still fails.
 
+use clvm_rs::run::put_atom;
+
+/// What starts at `at`: the place behind a pair's `ff`, or an atom's body.
+enum Start {
+    Pair(usize),
+    Body(usize, usize),
+}
+
+fn start(form: &[u8], at: usize) -> Option<Start> {
+    let first = *form.get(at)?;
+    let (bits, more) = match first {
+        0x00..=0x7f => return Some(Start::Body(at, at + 1)),
+        0x80..=0xbf => (0x3f, 0),
+        0xc0..=0xdf => (0x1f, 1),
+        0xe0..=0xef => (0x0f, 2),
+        0xf0..=0xf7 => (0x07, 3),
+        0xf8..=0xfb => (0x03, 4),
+        0xff => return Some(Start::Pair(at + 1)),
+        _ => return None,
+    };
+    let from = at + 1 + more;
+    let stated = form.get(at + 1..from)?.iter().fold((first & bits) as usize, |length, byte| length << 8 | *byte as usize);
+    (from + stated <= form.len()).then_some(Start::Body(from, from + stated))
+}
+
 /// The end of the tree that starts at `at`, if the bytes have one there.
 fn end(form: &[u8], at: usize) -> Option<usize> {
     let (mut at, mut open) = (at, 1usize);
     while open > 0 {
-        let first = *form.get(at)?;
-        at += 1;
-        if first == 0xff {
-            open += 1;
-            continue;
+        match start(form, at)? {
+            Start::Pair(parts) => (at, open) = (parts, open + 1),
+            Start::Body(_, end) => (at, open) = (end, open - 1),
         }
-        let (bits, more) = match first {
-            0x00..=0x80 => (0, 0),
-            0x81..=0xbf => (0x3f, 0),
-            0xc0..=0xdf => (0x1f, 1),
-            _ => return None,
-        };
-        let mut length = (first & bits) as usize;
-        for _ in 0..more {
-            length = length << 8 | *form.get(at)? as usize;
-            at += 1;
-        }
-        at += length;
-        if at > form.len() {
-            return None;
-        }
-        open -= 1;
     }
     Some(at)
 }
 
-/// Forms that are smaller: without what stands behind, a tree instead of its pair, nil instead of a tree, without one byte.
+/// Forms that are smaller: without what stands behind, a tree instead of its pair, an atom in its shortest spelling, nil instead of a tree,
+/// without one byte.
 fn smaller(form: &[u8]) -> Vec<Vec<u8>> {
     let mut found = Vec::new();
     for cut in [form.len() / 2, form.len().saturating_sub(1)] {
@@ -39,11 +47,19 @@ fn smaller(form: &[u8]) -> Vec<Vec<u8>> {
     let mut put = |from: usize, to: usize, with: &[u8]| found.push([&form[..from], with, &form[to..]].concat());
     for at in 0..form.len() {
         let Some(whole) = end(form, at) else { continue };
-        if form[at] == 0xff {
-            if let Some(left) = end(form, at + 1) {
-                put(at, whole, &form[at + 1..left]);
-                put(at, whole, &form[left..whole]);
+        match start(form, at) {
+            Some(Start::Pair(parts)) => {
+                if let Some(left) = end(form, parts) {
+                    put(at, whole, &form[parts..left]);
+                    put(at, whole, &form[left..whole]);
+                }
             }
+            Some(Start::Body(from, to)) => {
+                let mut shortest = Vec::new();
+                put_atom(&form[from..to], &mut shortest);
+                put(at, whole, &shortest);
+            }
+            None => {}
         }
         put(at, whole, &[0x80]);
     }

@@ -9,12 +9,12 @@ length-from-spec =
     (tie.spec
     (λ c. search needs)  -- sub-t6
     (λ c. search laws.from-none)  -- returns
-    (λ c κs. search needs)  -- sized-requires
+    (λ c κs. search needs)  -- more-requires
     (λ c. search laws.from-one)  -- returns-2
-    (λ c κs. search needs)  -- sized-requires-2
+    (λ c κs. search needs)  -- more-requires-2
     (λ c. search laws.from-two)  -- returns-3
-    (λ c κs. search needs)  -- sized-requires-3
+    (λ c κs. search needs)  -- more-requires-3
     (λ c. search laws.from-three)  -- returns-4
-    (λ c κs. search needs)  -- sized-requires-4
+    (λ c κs. search needs)  -- more-requires-4
     (λ c. search laws.from-four)  -- returns-5
     (λ c. search laws.from-last))  -- returns-6

@@ -13,14 +13,9 @@ read-long-spec =
     (λ c. search laws.long-wide)  -- returns
     (λ c. search laws.long-within)  -- sub-if2
     (λ c. search laws.long-ends)  -- returns-2
-    (λ c. search needs)  -- add-next
-    (λ c. search needs)  -- sub-needs-prefix
-    (λ c. search needs)  -- part-needs-prefix-start
-    (λ c. search laws.long-part)  -- part-needs-prefix-end
-    (λ c κs. search needs)  -- needs-prefix-requires
     (λ c κs. (search needs, search laws.long-place, search laws.long-part, search needs))  -- form-atom-node-requires
+    (λ c. search needs)  -- add-with-next
     (λ c κs. search needs)  -- with-next-requires
     (λ c. search laws.long-refused)  -- returns-3
     (λ c. search needs)  -- same-length
-    (λ c. search laws.long-made)  -- returns-4
-    (λ c. search laws.long-alone))  -- returns-5
+    (λ c. search laws.long-made))  -- returns-4
