@@ -88,12 +88,12 @@ module _ (form room out room′ out′ : List ℕ) where
       record { tree = w .tree; after = w .after; is = w .is; count = j; cost = cc; front = ap (λ (m : ℕ). take m out′) (sym k) ∙ t .front ∙ w .bytes-are }
 
   module _ (b : IsBytes form) where
-    -- What `write` answers reads again as the form does: the same tree, for the same units.
+    -- What `write` answers reads again as the form does: the same tree, for the same units, which are those that it tells.
     pub writes-again : (n units : ℕ) → Settles write-says (write-outcome form (length room) (length out)) room room′ out out′ (Written n units)
-        → (t : Tree) × (s : Reading) × (read-form form 0 ≡ done t s) × (read-form (take n out′) 0 ≡ done t s)
+        → (t : Tree) × (s : Reading) × (read-form form 0 ≡ done t s) × (read-form (take n out′) 0 ≡ done t s) × (units ≡ s .units)
     writes-again n units h =
         let w = wrote-back n units h in
-        (w .tree, w .after, w .is, ap (λ (f : List ℕ). read-form f 0) (w .front) ∙ read-again form b (w .tree) (w .after) 0 (omega arith) (w .is))
+        (w .tree, w .after, w .is, ap (λ (f : List ℕ). read-form f 0) (w .front) ∙ read-again form b (w .tree) (w .after) 0 (omega arith) (w .is), w .cost)
 
     -- It is the form itself exactly when the form was shortest, and never longer.
     pub writes-back : (n units : ℕ) → Settles write-says (write-outcome form (length room) (length out)) room room′ out out′ (Written n units)

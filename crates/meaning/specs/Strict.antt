@@ -36,6 +36,7 @@ strict-long p = do
   spend limits (atom-cost bs)
   give (atom bs)
 
+-- "`80` is nil. `00` to `7f` is a one-byte atom": as Form's `read-atom`
 unfoldable pub strict-atom : ℕ → M Reading Tree
 unfolding spend strict-long give _>>_
 strict-atom p =
@@ -44,6 +45,7 @@ strict-atom p =
       | false ↦ elim (eqb p 0x80) [ true ↦ give nil | false ↦ strict-long p ]
     ]
 
+-- one tree: as Form's `read`, but for its atoms
 unfoldable pub strict : ℕ → M Reading Tree
 unfolding strict-atom spend refuse give _>>=_ _>>_ next
 strict zero = refuse EndsEarly
@@ -56,6 +58,7 @@ strict (suc k) = next >>= λ p. elim (eqb p 0xff) [
   | false ↦ strict-atom p
 ]
 
+-- refusal 2, then one tree and no more: as Form's `read-form`
 unfoldable pub strict-form : List ℕ → ℕ → Out Reading Tree
 unfolding strict at-end give _>>=_ _>>_
 strict-form bs u = elim (leb (length bs) form-limit) [
