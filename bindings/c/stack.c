@@ -11,7 +11,7 @@
 
 /* A word of the stack that nothing has touched. */
 #define CLEAN 0xa5a5a5a5a5a5a5a5u
-enum { STACK = 8 << 20, WORDS = STACK / 8, FORMS = 7, FUNCTIONS = 11 };
+enum { STACK = 8 << 20, WORDS = STACK / 8, FORMS = 8, FUNCTIONS = 12 };
 static uint8_t form[UMLAZGRIN_FORM], both[2 * UMLAZGRIN_FORM], text[UMLAZGRIN_TEXT + 2];
 static uint8_t room[UMLAZGRIN_ROOM], out[UMLAZGRIN_OUTPUT];
 static uint64_t *stack;
@@ -66,6 +66,13 @@ static void *check(void *none) {
 static void *write_again(void *none) {
     struct umlazgrin_written r;
     umlazgrin_write(form, length, room, sizeof room, out, sizeof out, &r);
+    return none;
+}
+
+/* The form as the first of a report. */
+static void *add_form(void *none) {
+    struct umlazgrin_savings r = {0};
+    umlazgrin_add_form(form, length, room, sizeof room, &r);
     return none;
 }
 
@@ -132,10 +139,10 @@ static int take(const char *line) {
 }
 
 int main(void) {
-    const char *names[FUNCTIONS] = {"optimise",   "evaluate",  "match",         "match_place",   "check",     "write",
-                                    "write_text", "read_text", "optimise_text", "evaluate_text", "text_fault"};
-    void *(*works[FUNCTIONS])(void *) = {optimise,   evaluate,  match,         match_place,   check,     write_again,
-                                         write_text, read_text, optimise_text, evaluate_text, text_fault};
+    const char *names[FUNCTIONS] = {"optimise", "evaluate",   "match",     "match_place",   "check",         "write",
+                                    "add_form", "write_text", "read_text", "optimise_text", "evaluate_text", "text_fault"};
+    void *(*works[FUNCTIONS])(void *) = {optimise, evaluate,   match,     match_place,   check,         write_again,
+                                         add_form, write_text, read_text, optimise_text, evaluate_text, text_fault};
     size_t most[FUNCTIONS] = {0}, at[FUNCTIONS] = {0}, number = 0;
     static char line[UMLAZGRIN_TEXT + 64];
     stack = mmap(NULL, STACK, PROT_READ | PROT_WRITE, MAP_PRIVATE | MAP_ANONYMOUS, -1, 0);

@@ -2,11 +2,12 @@
  * serialised form and of the readable notation, on bytes that the caller lends. Link libumlazgrin.a; of C's library it needs memcpy
  * and memset only.
  *
- * Each of the eleven functions returns 0 for an answer, or the number of a refusal (1 to 16; the matcher also 100 and 101). What it leaves
+ * Each of the twelve functions returns 0 for an answer, or the number of a refusal (1 to 17; the matcher also 100 and 101). What it leaves
  * behind is proved of it, for all inputs:
- *   - an answer fills in *report and writes the first bytes of out, as many as the report says, and none after them (umlazgrin_check and
- *     umlazgrin_text_fault have no out: they write the report and the room alone);
- *   - any other return leaves out and *report as they came in;
+ *   - an answer fills in *report and writes the first bytes of out, as many as the report says, and none after them (umlazgrin_check,
+ *     umlazgrin_text_fault and umlazgrin_add_form have no out: they write the report and the room alone);
+ *   - any other return leaves out and *report as they came in; but umlazgrin_add_form, whose report is one over many forms, counts a form
+ *     that is refused with 1 to 14 in it, and leaves it as it came in where it returns 17 alone;
  *   - umlazgrin_match_place fills in *place where it returns 100; every other return leaves *place as it came in;
  *   - room is all zero after every return but refusal 1, which leaves it as it came in. What it holds before does not matter.
  *
@@ -23,7 +24,8 @@
  *   - report points to a whole report, aligned as its type is, and place to 64 bytes; neither is ever null;
  *   - room, out, *report and *place do not overlap each other, and none overlaps the form or text; no other thread uses them during the call;
  *   - the calling thread has 2 MiB of stack left (README.md says what was measured).
- * There is no state between calls, nothing is allocated, and threads may call at once with room of their own. */
+ * There is no state between calls but in the report that umlazgrin_add_form is given again, nothing is allocated, and threads may call at
+ * once with room, and such a report, of their own. */
 #ifndef UMLAZGRIN_H
 #define UMLAZGRIN_H
 
@@ -38,6 +40,8 @@ extern "C" {
 #define UMLAZGRIN_ROOM 65536
 /* Bytes in a form, at most, as it is passed: the spare ones count. */
 #define UMLAZGRIN_FORM 8192
+/* Forms in a report of savings, at most. */
+#define UMLAZGRIN_FORMS 4096
 /* Bytes in a text, at most. The text of every form that is read is shorter. */
 #define UMLAZGRIN_TEXT 32768
 /* Bytes of output that the programs lend, also for text. A finished tree or a value can be longer: its parts may be shared, and are
@@ -62,6 +66,7 @@ enum umlazgrin_number {
     UMLAZGRIN_OUTPUT_SHORT = 14,    /* result longer than the output */
     UMLAZGRIN_NO_PARSE = 15,        /* text that does not parse; the empty text too */
     UMLAZGRIN_TEXT_LONG = 16,       /* text over 32,768 bytes */
+    UMLAZGRIN_REPORT_FULL = 17,     /* a 4,097th form of a report */
     UMLAZGRIN_NO_MATCH = 100,       /* the matcher only: no refusal, the expression is not of the pattern's shape */
     UMLAZGRIN_TOO_MANY_NAMES = 101  /* the matcher only: no refusal, the pattern asks for a third name */
 };
@@ -82,6 +87,10 @@ struct umlazgrin_checked { size_t units; };
 struct umlazgrin_written { size_t length, units; };
 /* found is 1 where the text does not parse, and place the number of its bytes before the fault; both are 0 where it parses. */
 struct umlazgrin_fault { size_t found, place; };
+/* Totals over forms, which start as all zero. Each form stands in one column: answered, or refused[number - 1]. The others are about the
+ * answered forms alone: how many are marked; their bytes as they were passed, and those of their finished trees; the greatest number of
+ * passes; and how often each of the eight rules ended a pass, at any nesting, thrown-away work included. */
+struct umlazgrin_savings { uint64_t answered, refused[14], marked, before, after, passes, rules[8]; };
 
 /* Optimises the form's tree and writes the finished tree to out. */
 uint8_t umlazgrin_optimise(const uint8_t *form, size_t form_length, uint8_t *room, size_t room_length,
@@ -109,6 +118,13 @@ uint8_t umlazgrin_check(const uint8_t *form, size_t form_length, uint8_t *room, 
  * is read as the same tree. */
 uint8_t umlazgrin_write(const uint8_t *form, size_t form_length, uint8_t *room, size_t room_length,
                         uint8_t *out, size_t out_length, struct umlazgrin_written *report);
+
+/* Works one form, as umlazgrin_optimise does with UMLAZGRIN_OUTPUT bytes of out, and adds it to the report. It returns 0, or 1 to 14, as
+ * that function does, and counts the form there: also where the room is too small, which is the form's refusal 1. It returns 17 where
+ * the report has 4,096 forms already, whatever form and room are, and where it has a number of 2^63 or more, which no report has that
+ * started as zero. */
+uint8_t umlazgrin_add_form(const uint8_t *form, size_t form_length, uint8_t *room, size_t room_length,
+                           struct umlazgrin_savings *report);
 
 /* The five functions of the readable notation. A text is bytes and a length, in and out: no zero byte ends it. Refusals of a text come
  * in this order: 1, 16, 15, 2, then 5 and 7 as in the form of its tree; then those of the work, and 14 last. Of two texts the first is

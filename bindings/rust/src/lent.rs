@@ -2,6 +2,7 @@
 //!
 //! Every refusal leaves `out` as it came in. An answer writes the first bytes of `out`, as many as it says, and none after
 //! them. `room` is all zero after every return but [`Refusal::RoomSmall`], which leaves it as it came in. A text is any bytes.
+//! [`add_form`] has no `out`: it adds to a report that the caller keeps.
 
 use crate::raw;
 use crate::refusal::Refusal;
@@ -63,6 +64,57 @@ pub enum Matched {
 pub struct Written {
     pub length: usize,
     pub units: usize,
+}
+
+/// Totals over forms, at most [`crate::FORMS`]; the default is an empty report. Each form stands in one column: in `answered`, or in
+/// `refused` at its refusal's number less 1. The others are about the answered forms alone: how many are marked; their bytes as they were
+/// passed, and those of their finished trees; the greatest number of passes; and how often each of the eight rules ended a pass, at any
+/// nesting, thrown-away work included.
+#[derive(Clone, Copy, Debug, Default, PartialEq, Eq)]
+#[repr(C)]
+pub struct Savings {
+    pub answered: u64,
+    pub refused: [u64; 14],
+    pub marked: u64,
+    pub before: u64,
+    pub after: u64,
+    pub passes: u64,
+    pub rules: [u64; 8],
+}
+
+impl Savings {
+    /// How many forms were refused so. No form of a report is refused with more than 14.
+    pub fn refused_with(&self, refusal: Refusal) -> u64 {
+        self.refused.get(usize::from(refusal.number()) - 1).copied().unwrap_or(0)
+    }
+
+    /// How many forms there are. (The numbers of a report that was not made here may be too great for a sum.)
+    pub fn forms(&self) -> u64 {
+        self.refused.iter().fold(self.answered, |sum, count| sum.saturating_add(*count))
+    }
+}
+
+/// What became of a form that was to be added to a report.
+#[derive(Clone, Copy, Debug, PartialEq, Eq)]
+pub enum Added {
+    /// It is counted as answered.
+    Answered,
+    /// It is counted as refused, with one of the numbers 1 to 14.
+    Refused(Refusal),
+    /// It is not counted, [`Refusal::ReportFull`]: the report has [`crate::FORMS`] forms, or a number of 2^63 or more, which no report
+    /// has that started as the default.
+    Full,
+}
+
+impl Added {
+    /// As the library returns it: 0, 1 to 14, or 17.
+    pub fn number(self) -> u8 {
+        match self {
+            Added::Answered => 0,
+            Added::Refused(refusal) => refusal.number(),
+            Added::Full => Refusal::ReportFull.number(),
+        }
+    }
 }
 
 /// 0 is an answer; the library returns no other number than those of the enum.
@@ -140,6 +192,19 @@ pub fn write(form: &[u8], room: &mut [u8], out: &mut [u8]) -> Result<Written, Re
     refused(number)?;
     let [length, units] = report;
     Ok(Written { length, units })
+}
+
+/// Works one form, as [`optimise`] does with [`crate::OUTPUT`] bytes of output, and adds it to the report; where it is refused, too. Only
+/// [`Added::Full`] leaves the report as it came in.
+pub fn add_form(form: &[u8], room: &mut [u8], report: &mut Savings) -> Added {
+    let number = unsafe {
+        raw::umlazgrin_add_form(form.as_ptr(), form.len(), room.as_mut_ptr(), room.len(), report)
+    };
+    match refused(number) {
+        Ok(()) => Added::Answered,
+        Err(Refusal::ReportFull) => Added::Full,
+        Err(refusal) => Added::Refused(refusal),
+    }
 }
 
 // ---- the notation

@@ -24,13 +24,15 @@ pub mod lent;
 pub mod raw;
 mod refusal;
 
-pub use lent::Place;
+pub use lent::{Added, Place, Savings};
 pub use refusal::Refusal;
 
 /// Bytes of working room that every function needs, at least.
 pub const ROOM: usize = 65_536;
 /// Bytes in a form, at most, as it is passed: the spare ones count.
 pub const FORM: usize = 8_192;
+/// Forms in a report of savings, at most.
+pub const FORMS: usize = 4_096;
 /// Bytes in a text, at most.
 pub const TEXT: usize = 32_768;
 /// Bytes of output, where the caller does not choose otherwise.
@@ -113,6 +115,21 @@ impl Umlazgrin {
     pub fn optimise(&mut self, form: &[u8]) -> Result<Answer, Refusal> {
         let r = lent::optimise(form, &mut self.room, &mut self.out)?;
         Ok(Answer { tree: self.out[..r.length].to_vec(), passes: r.passes, units: r.units, mark: r.mark })
+    }
+
+    /// Works one form and adds it to the report, as answered or as refused. Its finished tree is held against [`OUTPUT`] bytes, whatever
+    /// output this has.
+    ///
+    /// ```
+    /// use umlazgrin::{Added, Refusal, Savings, Umlazgrin};
+    /// let (mut u, mut report) = (Umlazgrin::new(), Savings::default());
+    /// assert_eq!(u.add_form(&[0xff, 0x05, 0xff, 0x01, 0x80], &mut report), Added::Answered); // (f 1)
+    /// assert_eq!(u.add_form(&[0xff, 0x05, 0xff, 0x80, 0x80], &mut report), Added::Refused(Refusal::Fails)); // (f 0)
+    /// assert_eq!((report.before, report.after, report.rules[5]), (5, 1, 1));
+    /// assert_eq!((report.forms(), report.answered, report.refused_with(Refusal::Fails)), (2, 1, 1));
+    /// ```
+    pub fn add_form(&mut self, form: &[u8], report: &mut Savings) -> Added {
+        lent::add_form(form, &mut self.room, report)
     }
 
     pub fn evaluate(&mut self, program: &[u8], environment: &[u8]) -> Result<Value, Refusal> {

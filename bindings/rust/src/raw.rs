@@ -1,5 +1,7 @@
 //! The static library's functions, unsafe as C has them: bindings/c/umlazgrin.h says what the caller owes. A slice is a pointer and
-//! a length, a report an array of numbers. [`crate::lent`] has them safe.
+//! a length, a report an array of numbers, or [`Savings`], which is laid out as C has it. [`crate::lent`] has them safe.
+
+use crate::lent::Savings;
 
 extern "C" {
     pub fn umlazgrin_optimise(
@@ -24,6 +26,9 @@ extern "C" {
     pub fn umlazgrin_write(
         form: *const u8, form_length: usize, room: *mut u8, room_length: usize, out: *mut u8, out_length: usize,
         report: *mut [usize; 2],
+    ) -> u8;
+    pub fn umlazgrin_add_form(
+        form: *const u8, form_length: usize, room: *mut u8, room_length: usize, report: *mut Savings,
     ) -> u8;
     pub fn umlazgrin_read_text(
         text: *const u8, text_length: usize, room: *mut u8, room_length: usize, out: *mut u8, out_length: usize,

@@ -1,9 +1,9 @@
-//! The sixteen refusals, each with its number.
+//! The seventeen refusals, each with its number.
 
 use std::error::Error;
 use std::fmt;
 
-/// Why a form or a text was not answered. The numbers are part of what is promised: `Refusal::Fails as u8` is 8.
+/// Why a form or a text was not answered, or not added to a report. The numbers are part of what is promised: `Refusal::Fails as u8` is 8.
 #[derive(Clone, Copy, Debug, PartialEq, Eq, PartialOrd, Ord, Hash)]
 #[repr(u8)]
 pub enum Refusal {
@@ -23,15 +23,16 @@ pub enum Refusal {
     OutputShort = 14,
     NoParse = 15,
     TextLong = 16,
+    ReportFull = 17,
 }
 
 use Refusal::*;
 
 impl Refusal {
     /// All of them, in the order of their numbers.
-    pub const ALL: [Refusal; 16] = [
+    pub const ALL: [Refusal; 17] = [
         RoomSmall, FormLong, EndsEarly, BadPrefix, AtomLong, BytesAfter, UnitsOut, Fails, NoOperator, StepsOut, PathLong,
-        PassesOut, TooDeep, OutputShort, NoParse, TextLong,
+        PassesOut, TooDeep, OutputShort, NoParse, TextLong, ReportFull,
     ];
 
     pub fn number(self) -> u8 {
@@ -60,6 +61,7 @@ impl Refusal {
             OutputShort => "result longer than the output",
             NoParse => "text that does not parse",
             TextLong => "text over 32,768 bytes",
+            ReportFull => "a 4,097th form of a report",
         }
     }
 }

@@ -6,11 +6,13 @@ use native.Mathlib.Omega.{arith}
 use Rattle.refusals.specs.declared.Refusal.{Refusal}
 use Rattle.refusals.specs.declared.Refusal.the-variants.{UnitsOut}
 use Rattle.meaning.specs.Tree.{Tree}
-use Rattle.meaning.specs.Limits.{unit-limit}
+use Rattle.meaning.specs.Limits.{unit-limit, height-at}
 use Rattle.meaning.specs.Meter.{Out, done, stop, Spent, charge, _>>_}
 use Rattle.meaning.specs.Substitute.{sub-args, sub-cost, reads-low}
-use Rattle.meaning.specs.Rules.{applied-of, applied, not-applied, settle, var-change-optimizer-cons-eval}
+use Rattle.meaning.specs.Rules.{applied-of, applied, not-applied, settle, var-change-optimizer-cons-eval, var-change-optimizer-cons-eval-over}
 use Rattle.meaning.proofs.MeterLaws.{seq-at, seq-stop}
+use Rattle.meaning.proofs.LogSteps as log
+use Rattle.meaning.proofs.LogSteps.{settle-ends, rule-ends}
 use Rattle.store.specs.Nodes.{treeAt}
 use Rattle.store.specs.Store.{Ready}
 use Rattle.store.specs.Makers.{Grown, Over}
@@ -26,6 +28,9 @@ use Rattle.rules.specs.declared.Applied.{Applied}
 use Rattle.rules.specs.declared.Applied.the-variants.{Call, Other}
 use Rattle.run_state.specs.declared.Outcome.the-variants.{Same, Stopped}
 use Rattle.run_state.specs.declared.Work.{Work}
+use Rattle.run_state.specs.declared.Notes.{Notes}
+use Rattle.run_state.specs.Notes.{Noted}
+use Rattle.run_state.proofs.Noting.{noted-empty, noted-as}
 use Rattle.run_state.specs.Work.{spentOf, with-last, Did}
 use Rattle.rules.specs.Rule.{appliedAt, AppliedIn, AppliedOk}
 use Rattle.run_state.proofs.Does.{did-same, did-stopped}
@@ -47,7 +52,13 @@ module _ (f : List ℕ) (p : Patterns) (room : List ℕ) (w : Work) (n : ℕ) (h
   unfolding appliedAt var-change-optimizer-cons-eval
   change-none nest q eq e =
       let z : not-applied ≡ applied-of x = rw e at (ok .answer) in
-      did-same f room r₀ w q _ _ eq (ok .grown) (rw (← z, var-change-optimizer-cons-eval))
+      did-same f room r₀ w q _ _ eq (ok .grown) (rw (← z, var-change-optimizer-cons-eval-over))
+
+  pub change-none-noted : (nest : ℕ) (notes : Notes) (row : List (List ℕ)) → a ≡ Other → Noted notes row row (rule-ends (height-at (nest + 1)) 4 (treeAt f room n) (spentOf w))
+  unfolding appliedAt
+  change-none-noted nest notes row e =
+      let z : not-applied ≡ applied-of x = rw e at (ok .answer) in
+      noted-empty notes row _ (log.not-applied-ends (height-at (nest + 1)) x (sym z) (spentOf w))
 
   module _ (b s : ℕ) (e : a ≡ Call b s) where
     abbrev y : Tree
@@ -69,7 +80,7 @@ module _ (f : List ℕ) (p : Patterns) (room : List ℕ) (w : Work) (n : ℕ) (h
 
     is-call : (nest : ℕ) → def nest ≡ (charge (sub-cost y z) >> settle (again nest) x (sub-args y z) (reads-low y)) (spentOf w)
     unfolding var-change-optimizer-cons-eval
-    is-call nest = rw (call, var-change-optimizer-cons-eval)
+    is-call nest = rw (call, var-change-optimizer-cons-eval-over)
 
     module _ (r₁ : List ℕ) (u : Sub) (d : SubOk f r₀ r₁ (w .ch) (sub-cost (treeAt f r₀ b) (treeAt f r₀ s)) (sub-args (treeAt f r₀ b) (treeAt f r₀ s)) (reads-low (treeAt f r₀ b)) u) where
       pub change-over : (nest : ℕ) (r : Refusal) (q : Work) → q ≡ with-last w (Stopped r) → u ≡ Refused r → Did f room r₁ w (treeAt f room n) (var-change-optimizer-cons-eval (again nest) (treeAt f room n) (spentOf w)) q
@@ -80,6 +91,12 @@ module _ (f : List ℕ) (p : Patterns) (room : List ℕ) (w : Work) (n : ℕ) (h
           (is-call nest
           ∙ seq-stop (charge (sub-cost y z)) (settle (again nest) x (sub-args y z) (reads-low y)) (spentOf w) _ UnitsOut (charge-fails (sub-cost y z) (spentOf w) (o .over))
           ∙ ap (λ (t : Refusal). stop t (record { units = unit-limit; passes = w .passes; mark = w .mark })) (sym (o .refusal)))
+
+      pub change-over-noted : (nest : ℕ) (r : Refusal) (notes : Notes) (row : List (List ℕ)) → u ≡ Refused r → Noted notes row row (rule-ends (height-at (nest + 1)) 4 (treeAt f room n) (spentOf w))
+      unfolding SubOk
+      change-over-noted nest r notes row eu =
+          let o : Over (w .ch) (sub-cost y z) r = rw eu at d in
+          noted-empty notes row _ (log.uncharged-ends (height-at (nest + 1)) x y z call (spentOf w) UnitsOut _ (charge-fails (sub-cost y z) (spentOf w) (o .over)))
 
       module _ (v : Substituted) (eu : u ≡ Done v) where
         abbrev w′ : Work
@@ -112,3 +129,11 @@ module _ (f : List ℕ) (p : Patterns) (room : List ℕ) (w : Work) (n : ℕ) (h
             rw (grown-tree grown (h .ready), done-so .bought .stands .tree, done-so .low) at k in
             renamed f room r₂ w q x _ _ (goes-on f room r₁ r₂ w w′ q x _ grown k₂)
             (sym (is-call nest ∙ seq-at (charge (sub-cost y z)) (settle (again nest) x (sub-args y z) (reads-low y)) (spentOf w) (spentOf w′) tt charged))
+
+        pub change-settled-noted : (nest : ℕ) (notes : Notes) (row row₁ : List (List ℕ))
+            → Noted notes row row₁ (settle-ends (height-at (nest + 1)) (treeAt f r₁ n) (treeAt f r₁ (v .node)) (v .low) (record { units = v .ch .units; passes = w .passes; mark = w .mark }))
+            → Noted notes row row₁ (rule-ends (height-at (nest + 1)) 4 (treeAt f room n) (spentOf w))
+        change-settled-noted nest notes row row₁ k =
+            let k₂ : Noted notes row row₁ (settle-ends (height-at (nest + 1)) x (sub-args y z) (reads-low y) (spentOf w′)) =
+            rw (grown-tree grown (h .ready), done-so .bought .stands .tree, done-so .low) at k in
+            noted-as notes row row₁ _ _ k₂ (log.charged-ends (height-at (nest + 1)) x y z call (spentOf w) (spentOf w′) charged)

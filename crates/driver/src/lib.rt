@@ -4,6 +4,7 @@ use memo::Answer;
 use patterns::Patterns;
 use refusals::Refusal;
 use rules::Applied;
+use run_state::Notes;
 use run_state::Outcome;
 use run_state::Record;
 use run_state::State;
@@ -13,20 +14,23 @@ use store::Charges;
 use substitute::Sub;
 ghost use mathlib.Core.Path.{_≡_};
 ghost use mathlib.Core.Bool.{true, false};
-ghost use Prim.Native.Nat.{_≤_, _<_};
+ghost use Prim.Native.Nat.{_+_, _≤_, _<_};
+ghost use lib.ListN.{length};
 ghost use Rattle.meaning.specs.Limits.{nesting-limit, height-at};
 ghost use Rattle.meaning.specs.Rules.{settle, var-change-optimizer-cons-eval, children-optimizer};
-ghost use Rattle.meaning.specs.Driver.{optimize-sexp};
+ghost use Rattle.meaning.specs.Driver.{optimize-sexp, ends};
+ghost use Rattle.meaning.proofs.LogSteps.{ends-over, settle-ends, rule-ends, turn-ends};
 ghost use Rattle.store.specs.Nodes.{tree-in};
 ghost use Rattle.store.specs.Store.{Ready};
 ghost use Rattle.patterns.specs.Patterns.{Patterned};
 ghost use Rattle.run_state.specs.Work.{spentOf, Did};
 ghost use Rattle.run_state.specs.State.{Valid, Still};
+ghost use Rattle.run_state.specs.Notes.{count-records, Noted};
 ghost use Rattle.driver_parts.specs.Turns.{again, optimizer, one-turn, Fine, fresh-work};
 ghost use Rattle.driver_parts.specs.Walk.{walk, Walked};
 ghost use Rattle.driver.specs.Alone.{one-rule};
 
-// Works a list's elements left to right, 64 at a time; what was found goes down, the verdict comes up, and then the list is made.
+// Works a list's elements left to right, 48 at a time; what was found goes down, the verdict comes up, and then the list is made.
 fn operands(
     form: &[u8],
     room: &mut [u8],
@@ -37,14 +41,15 @@ fn operands(
     nest: usize,
     count: bool,
     flag: bool,
+    notes: Notes,
 ) -> State
     requires { ⌜ Fine (now form) (now room) (st .w) p list × (nest < 65) × Valid (now form) (now room) (now row) st ⌝ }
-    ensures { λ r. ⌜ Walked (now (form .entry)) (now (room .entry)) (now (room .exit)) (st .w) (walk count (again nest) flag (tree-in form room list) (spentOf (st .w))) (r .w) × Still (now (form .entry)) (now (room .exit)) (now (row .exit)) r ⌝ }
+    ensures { λ r. ⌜ Walked (now (form .entry)) (now (room .entry)) (now (room .exit)) (st .w) (walk count (again nest) flag (tree-in form room list) (spentOf (st .w))) (r .w) × Still (now (form .entry)) (now (room .exit)) (now (row .exit)) r × Noted notes (now (row .entry)) (now (row .exit)) (ends-over (height-at (nest + 1)) (tree-in form room list) (spentOf (st .w))) ⌝ }
 {
     let mut s = st;
     let mut q = list;
     let mut seen = flag;
-    let mut got: [u16; 64] = [0; 64];
+    let mut got: [u16; 48] = [0; 48];
     let mut k: usize = 0;
     loop {
         match store::look_node(room, q) {
@@ -56,8 +61,8 @@ fn operands(
                 return s;
             }
             Cell::Pair(h, t) => {
-                if 64 <= k {
-                    s = operands(form, room, row, p, s, q, nest, count, seen);
+                if 48 <= k {
+                    s = operands(form, room, row, p, s, q, nest, count, seen, notes);
                     let c = s.w;
                     let d = driver_parts::put_before(form, room, c, got, k);
                     s.w = d;
@@ -76,7 +81,7 @@ fn operands(
                         q = t;
                     }
                     Cell::Pair(_, _) => {
-                        s = drive(form, room, row, p, s, h, nest + 1);
+                        s = drive(form, room, row, p, s, h, nest + 1, notes);
                         let c = s.w;
                         match driver_parts::worked_into(form, room, c, h, count, seen) {
                             Element::Refused => {
@@ -109,15 +114,16 @@ fn settle(
     new: usize,
     low: bool,
     nest: usize,
+    notes: Notes,
 ) -> State
     requires { ⌜ Fine (now form) (now room) (st .w) p r × Fine (now form) (now room) (st .w) p new × (nest < 65) × Valid (now form) (now room) (now row) st ⌝ }
-    ensures { λ q. ⌜ Did (now (form .entry)) (now (room .entry)) (now (room .exit)) (st .w) (tree-in form room r) (settle (again nest) (tree-in form room r) (tree-in form room new) low (spentOf (st .w))) (q .w) × Still (now (form .entry)) (now (room .exit)) (now (row .exit)) q ⌝ }
+    ensures { λ q. ⌜ Did (now (form .entry)) (now (room .entry)) (now (room .exit)) (st .w) (tree-in form room r) (settle (again nest) (tree-in form room r) (tree-in form room new) low (spentOf (st .w))) (q .w) × Still (now (form .entry)) (now (room .exit)) (now (row .exit)) q × Noted notes (now (row .entry)) (now (row .exit)) (settle-ends (height-at (nest + 1)) (tree-in form room r) (tree-in form room new) low (spentOf (st .w))) ⌝ }
 {
     let mut s = st;
     let c = s.w;
     let ch = c.ch;
     if seems::seems_constant(form, room, ch, new) {
-        s = drive(form, room, row, p, s, new, nest + 1);
+        s = drive(form, room, row, p, s, new, nest + 1, notes);
         let d = s.w;
         let e = driver_parts::keep_body(form, room, d, r, new, low);
         s.w = e;
@@ -128,7 +134,7 @@ fn settle(
         s.w = d;
         return s;
     }
-    s = operands(form, room, row, p, s, new, nest, true, false);
+    s = operands(form, room, row, p, s, new, nest, true, false, notes);
     let d = s.w;
     let e = driver_parts::keep_list(form, room, d, r, low);
     s.w = e;
@@ -143,9 +149,10 @@ fn var_change_optimizer_cons_eval(
     st: State,
     n: usize,
     nest: usize,
+    notes: Notes,
 ) -> State
     requires { ⌜ Fine (now form) (now room) (st .w) p n × (nest < 65) × Valid (now form) (now room) (now row) st ⌝ }
-    ensures { λ q. ⌜ Did (now (form .entry)) (now (room .entry)) (now (room .exit)) (st .w) (tree-in form room n) (var-change-optimizer-cons-eval (again nest) (tree-in form room n) (spentOf (st .w))) (q .w) × Still (now (form .entry)) (now (room .exit)) (now (row .exit)) q ⌝ }
+    ensures { λ q. ⌜ Did (now (form .entry)) (now (room .entry)) (now (room .exit)) (st .w) (tree-in form room n) (var-change-optimizer-cons-eval (again nest) (tree-in form room n) (spentOf (st .w))) (q .w) × Still (now (form .entry)) (now (room .exit)) (now (row .exit)) q × Noted notes (now (row .entry)) (now (row .exit)) (rule-ends (height-at (nest + 1)) 4 (tree-in form room n) (spentOf (st .w))) ⌝ }
 {
     let mut s = st;
     let c = s.w;
@@ -171,7 +178,7 @@ fn var_change_optimizer_cons_eval(
                     last: Outcome::Same,
                 };
                 s.w = d;
-                s = settle(form, room, row, p, s, n, x.node, x.low, nest);
+                s = settle(form, room, row, p, s, n, x.node, x.low, nest, notes);
                 return s;
             }
         },
@@ -188,9 +195,10 @@ fn children_optimizer(
     st: State,
     n: usize,
     nest: usize,
+    notes: Notes,
 ) -> State
     requires { ⌜ Fine (now form) (now room) (st .w) p n × (nest < 65) × Valid (now form) (now room) (now row) st ⌝ }
-    ensures { λ q. ⌜ Did (now (form .entry)) (now (room .entry)) (now (room .exit)) (st .w) (tree-in form room n) (children-optimizer (again nest) (tree-in form room n) (spentOf (st .w))) (q .w) × Still (now (form .entry)) (now (room .exit)) (now (row .exit)) q ⌝ }
+    ensures { λ q. ⌜ Did (now (form .entry)) (now (room .entry)) (now (room .exit)) (st .w) (tree-in form room n) (children-optimizer (again nest) (tree-in form room n) (spentOf (st .w))) (q .w) × Still (now (form .entry)) (now (room .exit)) (now (row .exit)) q × Noted notes (now (row .entry)) (now (row .exit)) (rule-ends (height-at (nest + 1)) 5 (tree-in form room n) (spentOf (st .w))) ⌝ }
 {
     let mut s = st;
     let c = s.w;
@@ -204,7 +212,7 @@ fn children_optimizer(
         s.w = d;
         return s;
     }
-    s = operands(form, room, row, p, s, n, nest, false, false);
+    s = operands(form, room, row, p, s, n, nest, false, false, notes);
     s
 }
 
@@ -219,15 +227,16 @@ fn optimizer(
     n: usize,
     nest: usize,
     rule: usize,
+    notes: Notes,
 ) -> State
     requires { ⌜ Fine (now form) (now room) (st .w) p n × (nest < 65) × (0 < rule) × (rule ≤ 8) × Valid (now form) (now room) (now row) st ⌝ }
-    ensures { λ q. ⌜ Did (now (form .entry)) (now (room .entry)) (now (room .exit)) (st .w) (tree-in form room n) (optimizer (again nest) rule (tree-in form room n) (spentOf (st .w))) (q .w) × Still (now (form .entry)) (now (room .exit)) (now (row .exit)) q ⌝ }
+    ensures { λ q. ⌜ Did (now (form .entry)) (now (room .entry)) (now (room .exit)) (st .w) (tree-in form room n) (optimizer (again nest) rule (tree-in form room n) (spentOf (st .w))) (q .w) × Still (now (form .entry)) (now (room .exit)) (now (row .exit)) q × Noted notes (now (row .entry)) (now (row .exit)) (rule-ends (height-at (nest + 1)) rule (tree-in form room n) (spentOf (st .w))) ⌝ }
 {
     if rule == 4 {
-        return var_change_optimizer_cons_eval(form, room, row, p, st, n, nest);
+        return var_change_optimizer_cons_eval(form, room, row, p, st, n, nest, notes);
     }
     if rule == 5 {
-        return children_optimizer(form, room, row, p, st, n, nest);
+        return children_optimizer(form, room, row, p, st, n, nest, notes);
     }
     let mut s = st;
     let c = s.w;
@@ -247,9 +256,10 @@ fn turn(
     st: State,
     n: usize,
     nest: usize,
+    notes: Notes,
 ) -> State
     requires { ⌜ Fine (now form) (now room) (st .w) p n × (nest < 65) × Valid (now form) (now room) (now row) st ⌝ }
-    ensures { λ q. ⌜ Did (now (form .entry)) (now (room .entry)) (now (room .exit)) (st .w) (tree-in form room n) (one-turn (again nest) (tree-in form room n) (spentOf (st .w))) (q .w) × Still (now (form .entry)) (now (room .exit)) (now (row .exit)) q ⌝ }
+    ensures { λ q. ⌜ Did (now (form .entry)) (now (room .entry)) (now (room .exit)) (st .w) (tree-in form room n) (one-turn (again nest) (tree-in form room n) (spentOf (st .w))) (q .w) × Still (now (form .entry)) (now (room .exit)) (now (row .exit)) q × Noted notes (now (row .entry)) (now (row .exit)) (turn-ends (height-at (nest + 1)) (tree-in form room n) (spentOf (st .w))) ⌝ }
 {
     let mut s = st;
     let c = s.w;
@@ -269,7 +279,7 @@ fn turn(
     }
     let mut rule: usize = 1;
     while rule < 9 {
-        s = optimizer(form, room, row, p, s, n, nest, rule);
+        s = optimizer(form, room, row, p, s, n, nest, rule, notes);
         let e = s.w;
         let o = e.last;
         match o {
@@ -277,6 +287,7 @@ fn turn(
                 rule += 1;
             }
             Outcome::Changed(_) => {
+                run_state::note(row, notes, rule);
                 return s;
             }
             Outcome::Stopped(_) => {
@@ -296,9 +307,10 @@ pub fn drive(
     st: State,
     n: usize,
     nest: usize,
+    notes: Notes,
 ) -> State
     requires { ⌜ Fine (now form) (now room) (st .w) p n × (nest < 66) × Valid (now form) (now room) (now row) st ⌝ }
-    ensures { λ q. ⌜ Did (now (form .entry)) (now (room .entry)) (now (room .exit)) (st .w) (tree-in form room n) (optimize-sexp (height-at nest) (tree-in form room n) (spentOf (st .w))) (q .w) × Still (now (form .entry)) (now (room .exit)) (now (row .exit)) q ⌝ }
+    ensures { λ q. ⌜ Did (now (form .entry)) (now (room .entry)) (now (room .exit)) (st .w) (tree-in form room n) (optimize-sexp (height-at nest) (tree-in form room n) (spentOf (st .w))) (q .w) × Still (now (form .entry)) (now (room .exit)) (now (row .exit)) q × Noted notes (now (row .entry)) (now (row .exit)) (ends (height-at nest) (tree-in form room n) (spentOf (st .w))) ⌝ }
 {
     let mut s = st;
     let c = s.w;
@@ -308,7 +320,7 @@ pub fn drive(
         return s;
     }
     let used = s.used;
-    match memo::lookup(form, room, row, c, used, n, nest) {
+    match memo::lookup(form, room, row, c, used, n, nest, notes) {
         Answer::Known(d) => {
             s.w = d;
             return s;
@@ -318,7 +330,7 @@ pub fn drive(
     let mut r = n;
     let mut moved = false;
     loop {
-        s = turn(form, room, row, p, s, r, nest);
+        s = turn(form, room, row, p, s, r, nest, notes);
         let e = s.w;
         let o = e.last;
         match o {
@@ -352,14 +364,21 @@ fn fresh(ch: Charges) -> State
     State { w: w, used: 0 }
 }
 
-// `optimize_sexp`: the outermost call.
-pub fn optimize_node(form: &[u8], room: &mut [u8], p: Patterns, ch: Charges, n: usize) -> Work
-    requires { ⌜ Ready (now form) (now room) ch n × Patterned (now form) (now room) ch p ⌝ }
-    ensures { λ w. ⌜ Did (now (form .entry)) (now (room .entry)) (now (room .exit)) (fresh-work ch) (tree-in form room n) (optimize-sexp nesting-limit (tree-in form room n) (spentOf (fresh-work ch))) w ⌝ }
+// `optimize_sexp`: the outermost call. What is noted stands in the row.
+pub fn optimize_node(
+    form: &[u8],
+    room: &mut [u8],
+    row: &mut [Record],
+    p: Patterns,
+    ch: Charges,
+    n: usize,
+    notes: Notes,
+) -> Work
+    requires { ⌜ Ready (now form) (now room) ch n × Patterned (now form) (now room) ch p × (count-records ≤ length (now row)) ⌝ }
+    ensures { λ w. ⌜ Did (now (form .entry)) (now (room .entry)) (now (room .exit)) (fresh-work ch) (tree-in form room n) (optimize-sexp nesting-limit (tree-in form room n) (spentOf (fresh-work ch))) w × Noted notes (now (row .entry)) (now (row .exit)) (ends nesting-limit (tree-in form room n) (spentOf (fresh-work ch))) ⌝ }
 {
-    let mut row = [[0u16; 6]; 256];
     let s = fresh(ch);
-    let r = drive(form, room, &mut row[..], p, s, n, 1);
+    let r = drive(form, room, row, p, s, n, 1, notes);
     r.w
 }
 
@@ -385,7 +404,7 @@ pub fn apply_node(
         Outcome::Stopped(_) => b,
         Outcome::Same => {
             s.w = b;
-            let r = optimizer(form, room, &mut row[..], p, s, n, 1, rule);
+            let r = optimizer(form, room, &mut row[..], p, s, n, 1, rule, Notes::Nothing);
             r.w
         }
     }

@@ -120,13 +120,13 @@ pub record Chunk (f : List ℕ) (p : Patterns) (nest list : ℕ) (count flag : B
   pub fine : Fine f room w p q
   pub nests : nest < 65
   pub grown : Grown f room₀ room (w₀ .ch) (w .ch)
-  pub few : k ≤ 64
-  pub size : length got ≡ 64
+  pub few : k ≤ 48
+  pub size : length got ≡ 48
   pub items : Items room (w .ch) got k
   pub less : q + k ≤ list
   pub rest : wrap f room got k (walk count (again nest) seen (treeAt f room q) (spentOf w)) ≡ walk count (again nest) flag (treeAt f room₀ list) (spentOf w₀)
 
-pub chunk-starts : (f : List ℕ) (p : Patterns) (nest list : ℕ) (count flag : Bool) (room : List ℕ) (w : Work) (got : List ℕ) → Fine f room w p list → nest < 65 → length got ≡ 64 → Chunk f p nest list count flag room w room w list flag got 0
+pub chunk-starts : (f : List ℕ) (p : Patterns) (nest list : ℕ) (count flag : Bool) (room : List ℕ) (w : Work) (got : List ℕ) → Fine f room w p list → nest < 65 → length got ≡ 48 → Chunk f p nest list count flag room w room w list flag got 0
 unfolding wrap
 chunk-starts f p nest list count flag room w got h n l = record {
   fine = h;
@@ -172,7 +172,7 @@ module _ (f : List ℕ) (p : Patterns) (nest list : ℕ) (count flag : Bool) (ro
   chunk-len-2 r₁ r₂ a b = a ∙ b ∙ i .grown .long
 
   -- the measure falls
-  pub chunk-down : (t : ℕ) → 64 ≤ k → (66 - nest) * 70_000 + list ≡ t → (66 - nest) * 70_000 + q < t
+  pub chunk-down : (t : ℕ) → 48 ≤ k → (66 - nest) * 70_000 + list ≡ t → (66 - nest) * 70_000 + q < t
   chunk-down t h e = omega (arith, i .less)
 
   pub chunk-deep : (t : ℕ) → (66 - nest) * 70_000 + list ≡ t → (66 - (nest + 1)) * 70_000 + 65_545 < t
@@ -188,7 +188,7 @@ module _ (f : List ℕ) (p : Patterns) (nest list : ℕ) (count flag : Bool) (ro
         rw (em, e) (step-end count nest seen (bytesAt f room q) (spentOf w)) in
         walks-on f room₀ room r₁ w₀ w v _ _ (i .grown) d (ap (wrap f room got k) x ∙ i .rest)
 
-  -- the call for what follows the first 64
+  -- the call for what follows the first 48
   module _ (r₁ : List ℕ) (w₁ : Work) (d : Walked f room r₁ w (walk count (again nest) seen (treeAt f room q) (spentOf w)) w₁) where
     over : (o : Out Spent (Option Tree)) → walk count (again nest) seen (treeAt f room q) (spentOf w) ≡ o → total ≡ wrap f room got k o
     over o e = sym (i .rest) ∙ ap (wrap f room got k) e
@@ -260,7 +260,7 @@ module _ (f : List ℕ) (p : Patterns) (nest list : ℕ) (count flag : Bool) (ro
     elem-falls = fall-right f room (w .ch) q h t a pa ea
 
     -- the result x of an element, put in its place
-    put : (r₁ : List ℕ) (w₁ : Work) (x : ℕ) (b : Bool) → Grown f room r₁ (w .ch) (w₁ .ch) → Ready f r₁ (w₁ .ch) x → w₁ .passes ≤ pass-limit → k < 64
+    put : (r₁ : List ℕ) (w₁ : Work) (x : ℕ) (b : Bool) → Grown f room r₁ (w .ch) (w₁ .ch) → Ready f r₁ (w₁ .ch) x → w₁ .passes ≤ pass-limit → k < 48
         → join (treeAt f r₁ x) (walk count (again nest) b (treeAt f room t) (spentOf w₁)) ≡ walk count (again nest) seen (treeAt f room q) (spentOf w)
         → Chunk f p nest list count flag room₀ w₀ r₁ w₁ t b (set got k x) (k + 1)
     unfolding wrap
@@ -304,7 +304,7 @@ module _ (f : List ℕ) (p : Patterns) (nest list : ℕ) (count flag : Bool) (ro
       pub atom-deep : (v : Work) → 64 ≤ nest → v ≡ with-last w (Stopped TooDeep) → Walked f room₀ room w₀ (walk count (again nest) flag (treeAt f room₀ list) (spentOf w₀)) v
       atom-deep v hn ev = walk-stops f room₀ room w₀ w v _ TooDeep (spentOf w) (off TooDeep (spentOf w) (again-deep nest (treeAt f room h) (spentOf w) hn)) ev
 
-      pub atom-again : nest < 64 → k < 64 → Chunk f p nest list count flag room₀ w₀ room w t seen (set got k h) (k + 1)
+      pub atom-again : nest < 64 → k < 48 → Chunk f p nest list count flag room₀ w₀ room w t seen (set got k h) (k + 1)
       atom-again hn lk =
           let e : again nest (treeAt f room h) (spentOf w) ≡ done (treeAt f room h) (spentOf w) = rw leaf-is (again-atom nest (bytesAt f room h) (spentOf w) hn) in
           let z : test-of count (treeAt f room h) (treeAt f room h) ≡ false = rw leaf-is (atom-stays count (bytesAt f room h)) in
@@ -322,7 +322,7 @@ module _ (f : List ℕ) (p : Patterns) (nest list : ℕ) (count flag : Bool) (ro
         abbrev stay : Same-as f room r₁ w w₁ (treeAt f room h) (optimize-sexp (height-at (nest + 1)) (treeAt f room h) (spentOf w))
         stay = says-same f room r₁ w w₁ _ _ d e
 
-        same-again : (b : Bool) → b ≡ (seen || sets-flag count false (treeAt f r₁ h)) → k < 64 → Chunk f p nest list count flag room₀ w₀ r₁ w₁ t b (set got k h) (k + 1)
+        same-again : (b : Bool) → b ≡ (seen || sets-flag count false (treeAt f r₁ h)) → k < 48 → Chunk f p nest list count flag room₀ w₀ r₁ w₁ t b (set got k h) (k + 1)
         same-again b eb lk =
             let eh : treeAt f r₁ h ≡ treeAt f room h = grown-tree (stay .grown) elem-ready in
             put r₁ w₁ h b (stay .grown) (grown-ready (stay .grown) elem-ready) (fits (treeAt f room h) (stay .gives)) lk
@@ -332,7 +332,7 @@ module _ (f : List ℕ) (p : Patterns) (nest list : ℕ) (count flag : Bool) (ro
         abbrev to : Changed-to f room r₁ w w₁ (treeAt f room h) m (optimize-sexp (height-at (nest + 1)) (treeAt f room h) (spentOf w))
         to = says-changed f room r₁ w w₁ _ _ d m e
 
-        changed-again : (b : Bool) → b ≡ (seen || sets-flag count true (treeAt f r₁ m)) → k < 64 → Chunk f p nest list count flag room₀ w₀ r₁ w₁ t b (set got k m) (k + 1)
+        changed-again : (b : Bool) → b ≡ (seen || sets-flag count true (treeAt f r₁ m)) → k < 48 → Chunk f p nest list count flag room₀ w₀ r₁ w₁ t b (set got k m) (k + 1)
         changed-again b eb lk =
             put r₁ w₁ m b (to .grown) (to .ready) (fits (treeAt f r₁ m) (to .gives)) lk
             (on (treeAt f r₁ m) (spentOf w₁) b (to .gives) (eb ∙ ap (seen ||_) (changed count (treeAt f room h) (treeAt f r₁ m) (to .differs))))
@@ -347,7 +347,7 @@ module _ (f : List ℕ) (p : Patterns) (nest list : ℕ) (count flag : Bool) (ro
           go (Stopped u) e = tt
 
       module _ (z : Element) (y : Became f r₁ h count seen z (w₁ .last)) where
-        pub elem-put : (m : ℕ) (b : Bool) → z ≡ Put m b → k < 64 → Chunk f p nest list count flag room₀ w₀ r₁ w₁ t b (set got k m) (k + 1)
+        pub elem-put : (m : ℕ) (b : Bool) → z ≡ Put m b → k < 48 → Chunk f p nest list count flag room₀ w₀ r₁ w₁ t b (set got k m) (k + 1)
         unfolding Became
         elem-put m b ez lk = go (w₁ .last) refl (subst (λ (a : Element). Became f r₁ h count seen a (w₁ .last)) ez y)
           where

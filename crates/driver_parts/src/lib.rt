@@ -74,7 +74,7 @@ pub fn build(
     form: &[u8],
     room: &mut [u8],
     w: Work,
-    got: [u16; 64],
+    got: [u16; 48],
     k: usize,
     tail: usize,
     make: bool,
@@ -91,7 +91,7 @@ pub fn build(
 }
 
 // The first k of got before what came of the rest of the list, as w says.
-pub fn put_before(form: &[u8], room: &mut [u8], w: Work, got: [u16; 64], k: usize) -> Work
+pub fn put_before(form: &[u8], room: &mut [u8], w: Work, got: [u16; 48], k: usize) -> Work
     requires { ⌜ Puttable (now form) (now room) w got k (w .last) ⌝ }
     ensures { λ r. ⌜ PutBefore (now (form .entry)) (now (room .entry)) (now (room .exit)) w got k r (w .last) ⌝ }
 {

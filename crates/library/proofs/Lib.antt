@@ -1,2 +1,3 @@
 pub mod Reports
 pub mod OnlyOne
+pub mod Totals

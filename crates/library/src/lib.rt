@@ -1,11 +1,15 @@
 // The functions of the static library, for C and Rust: the public ones, with answers as numbers. Each returns 0 for an answer and
 // the number of a refusal; a report is written through an array of its own, since neither an enum nor a struct is a result in C.
 use umlazgrin::Answer;
+use umlazgrin::Column;
 use umlazgrin::EvalAnswer;
 use umlazgrin::FaultAnswer;
 use umlazgrin::MatchAnswer;
 use umlazgrin::ReadAnswer;
+use umlazgrin::Refusal;
+use umlazgrin::Savings;
 use umlazgrin::WriteAnswer;
+ghost use mathlib.Core.Path.{_≡_};
 ghost use lib.ListN.{length};
 ghost use Rattle.meaning.specs.Run.{run};
 ghost use mathlib.Core.List.{[]};
@@ -15,6 +19,7 @@ ghost use Rattle.matcher.specs.Outcome as matcher;
 ghost use Rattle.texts.specs.Outcomes as notation;
 ghost use Rattle.texts.specs.Faults as faults;
 ghost use Rattle.library.specs.Reports.{Reports, Places};
+ghost use Rattle.library.specs.Totals.{savings-in, numbers-of, Totals};
 
 // What the matcher returns beside the refusals' numbers.
 const NO_MATCH: u8 = 100;
@@ -134,6 +139,98 @@ pub extern "C" fn umlazgrin_write(
             *report = [length, units];
             0
         }
+    }
+}
+
+// ---- savings over a list of forms
+
+fn from_numbers(q: [u64; 27]) -> Savings
+    ensures { λ s. ⌜ s ≡ savings-in q ⌝ }
+{
+    Savings {
+        answered: q[0],
+        refused: [
+            q[1],
+            q[2],
+            q[3],
+            q[4],
+            q[5],
+            q[6],
+            q[7],
+            q[8],
+            q[9],
+            q[10],
+            q[11],
+            q[12],
+            q[13],
+            q[14],
+        ],
+        marked: q[15],
+        before: q[16],
+        after: q[17],
+        passes: q[18],
+        rules: [q[19], q[20], q[21], q[22], q[23], q[24], q[25], q[26]],
+    }
+}
+
+fn to_numbers(s: Savings) -> [u64; 27]
+    ensures { λ q. ⌜ q ≡ numbers-of s ⌝ }
+{
+    let n = s.refused;
+    let r = s.rules;
+    [
+        s.answered,
+        n[0],
+        n[1],
+        n[2],
+        n[3],
+        n[4],
+        n[5],
+        n[6],
+        n[7],
+        n[8],
+        n[9],
+        n[10],
+        n[11],
+        n[12],
+        n[13],
+        s.marked,
+        s.before,
+        s.after,
+        s.passes,
+        r[0],
+        r[1],
+        r[2],
+        r[3],
+        r[4],
+        r[5],
+        r[6],
+        r[7],
+    ]
+}
+
+// Works the form into a running report, which starts as all zero: answered; refused by each of the numbers 1 to 14; marked; bytes
+// before and after; passes; each of the eight rules. It returns the form's number, which the report then has in its column; or 17,
+// and the report is as it came in.
+#[no_mangle]
+pub extern "C" fn umlazgrin_add_form(form: &[u8], room: &mut [u8], report: &mut [u64; 27]) -> u8
+    ensures { λ n. ⌜ Totals (now (form .entry)) (now (room .entry)) (now (room .exit)) (now (report .entry)) (now (report .exit)) n ⌝ }
+{
+    let q = *report;
+    let s = from_numbers(q);
+    let a = umlazgrin::add_form(form, room, s);
+    let t = a.savings;
+    let c = a.column;
+    match c {
+        Column::Answered => {
+            *report = to_numbers(t);
+            0
+        }
+        Column::Refused(e) => {
+            *report = to_numbers(t);
+            refusals::number_of(e)
+        }
+        Column::Full => refusals::number_of(Refusal::ReportFull),
     }
 }
 

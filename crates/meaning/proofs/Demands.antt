@@ -10,7 +10,7 @@ use mathlib.Core.Bool.{Bool, false}
 use lib.ListN.{length}
 use native.Mathlib.Omega.{arith}
 use Rattle.refusals.specs.declared.Refusal.{Refusal}
-use Rattle.refusals.specs.declared.Refusal.the-variants.{RoomSmall, FormLong, EndsEarly, BadPrefix, AtomLong, BytesAfter, UnitsOut, Fails, NoOperator, StepsOut, PathLong, PassesOut, TooDeep, OutputShort, NoParse, TextLong}
+use Rattle.refusals.specs.declared.Refusal.the-variants.{RoomSmall, FormLong, EndsEarly, BadPrefix, AtomLong, BytesAfter, UnitsOut, Fails, NoOperator, StepsOut, PathLong, PassesOut, TooDeep, OutputShort, NoParse, TextLong, ReportFull}
 use Rattle.refusals.specs.Numbers.{number-of}
 use Rattle.meaning.specs.Tree.{Tree}
 use Rattle.meaning.specs.Limits.{form-limit, unit-limit}
@@ -56,6 +56,7 @@ demand-1-number form room-length out-length n e = (at-least n, subst InTable e (
     at-least OutputShort = omega arith
     at-least NoParse = omega arith
     at-least TextLong = omega arith
+    at-least ReportFull = omega arith
 
 -- a refusal leaves the output as it came in
 pub demand-1-silent : (n : Refusal) (out : List ℕ) → out-after (refused n) out ≡ out

@@ -67,11 +67,16 @@ pub mod Passes
 pub mod LoopFuel
 pub mod Outcomes
 pub mod BindLaws
+pub mod Logs
 pub mod Operands
 pub mod OperandsSteps
 pub mod OperandsLaw
 pub mod OperandsRules
 pub mod Proper
+pub mod LogSteps
+pub mod LogBound
+pub mod LogRun
+pub mod Logbook
 pub mod OperandsOutcomes
 pub mod Sizes
 pub mod RuleDiffers

@@ -11,7 +11,7 @@ use Rattle.meaning.specs.Limits.{pair-cost}
 use Rattle.meaning.specs.Meter.{W, Spent, done, stop, _>>=_, _>>_, give, charge, mark-if}
 use Rattle.meaning.specs.Constant.{seems-constant}
 use Rattle.meaning.specs.Substitute.{or-else, is-proper}
-use Rattle.meaning.specs.Rules.{settle, children-optimizer}
+use Rattle.meaning.specs.Rules.{settle, children-optimizer, settle-over, children-optimizer-over}
 use Rattle.meaning.specs.Driver.{optimize-sexp}
 use Rattle.meaning.proofs.Tests.{on-bool}
 use Rattle.meaning.proofs.MeterLaws.{bind-inv, seq-inv, give-inv, bind-at}
@@ -45,11 +45,11 @@ module _ (again : Tree → W Tree) where
   -- a quote, and what is no proper list, stay
   pub children-of-quote : (r : Tree) → is-quote r ≡ true → (s : Spent) → children-optimizer again r s ≡ done r s
   unfolding children-optimizer
-  children-of-quote r q s = rw (q, children-optimizer)
+  children-of-quote r q s = rw (q, children-optimizer-over)
 
   pub children-of-improper : (r : Tree) → is-proper r ≡ false → (s : Spent) → children-optimizer again r s ≡ done r s
   unfolding children-optimizer
-  children-of-improper r p s = on-bool (is-quote r) (λ q. rw (q, children-optimizer)) (λ q. rw (q, proper-no r p, children-optimizer))
+  children-of-improper r p s = on-bool (is-quote r) (λ q. rw (q, children-optimizer-over)) (λ q. rw (q, proper-no r p, children-optimizer-over))
 
   module _ (r : Tree) (q : is-quote r ≡ false) (p : is-proper r ≡ true) (s x : Spent) where
     or-same : Option Tree → W Tree
@@ -57,7 +57,7 @@ module _ (again : Tree → W Tree) where
 
     by-walk : children-optimizer again r s ≡ (work differs true again false r >>= or-same) s
     unfolding children-optimizer or-same
-    by-walk = let (es, e) = proper-yes r p in rw (q, e, children-optimizer) (children-works again r es e s)
+    by-walk = let (es, e) = proper-yes r p in rw (q, e, children-optimizer-over) (children-works again r es e s)
 
     pub children-change : (m : Tree) → work differs true again false r s ≡ done (some m) x → (children-optimizer again r s ≡ done m x) × (equal-to r m ≡ false)
     unfolding or-same or-else give
@@ -81,13 +81,13 @@ module _ (again : Tree → W Tree) where
     -- a changed body that seems constant is worked
     pub settle-constant : seems-constant new ≡ true → (s : Spent) → settle again r new low s ≡ (again new >>= λ t. mark-if low >> give t) s
     unfolding settle
-    settle-constant c s = rw (c, settle)
+    settle-constant c s = rw (c, settle-over)
 
     module _ (c : seems-constant new ≡ false) where
       -- one that is no proper list is dropped
       pub settle-improper : is-proper new ≡ false → (s : Spent) → settle again r new low s ≡ done r s
       unfolding settle
-      settle-improper p s = rw (c, proper-no new p, settle)
+      settle-improper p s = rw (c, proper-no new p, settle-over)
 
       module _ (p : is-proper new ≡ true) (s x : Spent) where
         walked : settle again r new low s ≡ (work counts false again false new >>= kept-or r low) s

@@ -10,7 +10,7 @@ use Rattle.meaning.specs.Limits.{pair-cost}
 use Rattle.meaning.specs.Meter.{W, Spent, _>>=_, _>>_, give, charge, mark-if}
 use Rattle.meaning.specs.Constant.{seems-constant}
 use Rattle.meaning.specs.Substitute.{or-else}
-use Rattle.meaning.specs.Rules.{each, non-constant, none-of, settle, same-trees, relist, children}
+use Rattle.meaning.specs.Rules.{each, non-constant, none-of, settle, same-trees, relist, children, settle-over}
 use Rattle.meaning.proofs.Tests.{not-true}
 use Rattle.meaning.proofs.TreeLaws.{proper-list-sound}
 use Rattle.meaning.proofs.BindLaws.{bind-same}
@@ -84,7 +84,7 @@ pub settle-works : (again : Tree → W Tree) (r new : Tree) (low : Bool) (es : L
     → settle again r new low s ≡ (work counts false again false new >>= kept-or r low) s
 unfolding settle as-wanted built kept-or
 settle-works again r new low [] c p s = not-true (rw (proper-list-sound new [] p) at c)
-settle-works again r new low (e ∷ es) c p s = rw (c, p, settle)
+settle-works again r new low (e ∷ es) c p s = rw (c, p, settle-over)
     (bind-same (each again (e ∷ es)) (λ us. end (none-of non-constant us) us) (λ us. built (is-made false some-count false (e ∷ es) us) us >>= kept-or r low) s
     (λ us x. ends (none-of non-constant us) us x)
     ∙ sym (work-then counts false again some-count new e es (proper-list-sound new (e ∷ es) p) false (kept-or r low) s))

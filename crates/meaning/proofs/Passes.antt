@@ -21,16 +21,16 @@ passes-of s = s .passes
 abbrev pub Alike : {A : Type 0} → ℕ → W A → W A → Type 0
 Alike k m n = Agree passes-of k k m n
 
-alike-charge : (k c : ℕ) → Alike k (charge c) (charge c)
+pub alike-charge : (k c : ℕ) → Alike k (charge c) (charge c)
 unfolding charge Leaves
 alike-charge k c = agree-self passes-of k (charge c) λ s.
     on-bool (leb (s .units + c) unit-limit) (λ e. rw (e, charge) (omega arith)) (λ e. rw (e, charge) tt)
 
-alike-mark : (k : ℕ) (b : Bool) → Alike k (mark-if b) (mark-if b)
+pub alike-mark : (k : ℕ) (b : Bool) → Alike k (mark-if b) (mark-if b)
 unfolding mark-if Leaves
 alike-mark k b = agree-self passes-of k (mark-if b) λ s. omega arith
 
-alike-within : {A : Type 0} (k : ℕ) (m : E A) → Alike k (within m) (within m)
+pub alike-within : {A : Type 0} (k : ℕ) (m : E A) → Alike k (within m) (within m)
 unfolding within Leaves
 alike-within {A} k m = agree-self passes-of k (within m) λ s. go s (m (record { steps = 0; units = s .units }))
   where
@@ -50,7 +50,7 @@ one-pass-more k = record {
 }
 
 -- to be alike is kept by the ways of putting work together
-abbrev to-be-alike : ℕ → Kept
+abbrev pub to-be-alike : ℕ → Kept
 to-be-alike k = record {
   rel = λ m n. Alike k m n;
   by-give = λ a. agree-give passes-of k a;

@@ -96,7 +96,7 @@ pub run-fits : (form : List ℕ) (room-length out-length : ℕ) → Fits out-len
 unfolding run deliver-run Fits
 run-fits form room-length out-length = every (Fits out-length) (deliver-run out-length) (λ n. tt) (λ t s. fits-tree out-length t _) room-length (worked form)
 
-run-touched : (form : List ℕ) → Touched (worked form)
+pub run-touched : (form : List ℕ) → Touched (worked form)
 unfolding worked Touched
 run-touched form = touched (read-form form 0) refl
   where

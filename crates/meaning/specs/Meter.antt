@@ -1,9 +1,11 @@
 -- Work that goes on or is refused: over the state of a reading, of an evaluation and of a run.
-use Prim.Native.Nat.{ℕ, _+_}
+use Prim.Native.Nat.{ℕ, suc, _+_}
+use mathlib.Core.List.{List, [], _∷_, _++_}
 use mathlib.Core.Bool.{Bool, true, false, _||_}
-use lib.Dec.{leb}
+use lib.Dec.{leb, eqb}
 use Rattle.refusals.specs.declared.Refusal.{Refusal}
 use Rattle.refusals.specs.declared.Refusal.the-variants.{UnitsOut, StepsOut, PassesOut}
+use Rattle.meaning.specs.Tree.{Tree}
 use Rattle.meaning.specs.Limits.{unit-limit, step-limit, pass-limit}
 
 -- a result and the state after it, or a refusal and the state in which it came
@@ -67,6 +69,57 @@ pub record Spent : Type 0 where
 
 abbrev pub W : Type 0 → Type 0
 W A = M Spent A
+
+-- ---- the state that a run is done in, and what is noted where a rule ends a pass
+
+pub record Over : Type 1 where
+  pub S : Type 0
+  -- work that notes nothing
+  pub in-run : {A : Type 0} → W A → M S A
+  -- rule number n ended a pass with the new tree t
+  pub note : ℕ → Tree → M S (Unit {0})
+
+-- what is spent alone
+abbrev pub alone : Over
+alone = record { S = Spent; in-run = λ m. m; note = λ n t. give tt }
+
+-- the passes that rules ended, each by its rule's number and the new tree, in the order in which they ended
+abbrev pub Log : Type 0
+Log = List (ℕ × Tree)
+
+-- what is spent, and the log
+pub record Logged : Type 0 where
+  pub spent : Spent
+  pub log : Log
+
+-- an outcome, with a log
+unfoldable pub and-log : {A : Type 0} → Log → Out Spent A → Out Logged A
+and-log l (done a s) = done a (record { spent = s; log = l })
+and-log l (stop n s) = stop n (record { spent = s; log = l })
+
+abbrev pub logged : Over
+logged = record {
+  S = Logged;
+  in-run = λ m s. and-log (s .log) (m (s .spent));
+  note = λ n t s. done tt (record { spent = s .spent; log = s .log ++ ((n, t) ∷ []) });
+}
+
+-- the log after an outcome, a refusal too
+unfoldable pub log-of : {A : Type 0} → Out Logged A → Log
+log-of (done a s) = s .log
+log-of (stop n s) = s .log
+
+-- what work adds to a log, from where this is spent
+unfoldable pub log-from : {A : Type 0} → M Logged A → Spent → Log
+unfolding log-of
+log-from m s = log-of (m (record { spent = s; log = [] }))
+
+-- how many passes of a log rule number k ended
+unfoldable pub count-of : ℕ → Log → ℕ
+count-of k [] = 0
+count-of k (e ∷ l) = elim (eqb (e .0) k) [ true ↦ suc (count-of k l) | false ↦ count-of k l ]
+
+-- ---- what a run spends
 
 -- refusal 7
 unfoldable pub charge : ℕ → W (Unit {0})

@@ -1,4 +1,5 @@
--- optimize.rs: the eight rules, in its order. `again` is `optimize_sexp_` one deeper.
+-- optimize.rs: the eight rules, in its order. `again` is `optimize_sexp_` one deeper. Those that call it are defined over the state K that a run is
+-- done in: of what is spent alone, under their own names, and with a log.
 use Prim.Native.Nat.{ℕ, _+_, _*_}
 use mathlib.Core.List.{List, [], _∷_}
 use mathlib.Core.Bool.{Bool, true, false, _&&_, not}
@@ -9,7 +10,7 @@ use Rattle.refusals.specs.declared.Refusal.the-variants.{PathLong}
 use Rattle.meaning.specs.Tree.{Tree, atom, pair, nil, byte, enlist, proper-list, equal-to, is-byte, non-nil, is-quote, quote}
 use Rattle.meaning.specs.Number.{number, node-path-index, compose-paths, bytes-of}
 use Rattle.meaning.specs.Limits.{path-limit, pair-cost, atom-cost}
-use Rattle.meaning.specs.Meter.{W, _>>=_, _>>_, give, refuse, charge, within, mark-if}
+use Rattle.meaning.specs.Meter.{M, W, Over, alone, _>>=_, _>>_, give, refuse, charge, within, mark-if}
 use Rattle.meaning.specs.Evaluate.{evaluate}
 use Rattle.meaning.specs.Match.{Match, matched, no-match, too-many-names, match-sexp, got, atom-match}
 use Rattle.meaning.specs.Constant.{seems-constant}
@@ -86,7 +87,7 @@ cons-q-a-optimizer r = elim (applied-of r) [
 -- ---- 4. `var_change_optimizer_cons_eval`: "`(a (q . S) ARGS)` substitutes"
 
 -- every element, left to right
-unfoldable pub each : (Tree → W Tree) → List Tree → W (List Tree)
+unfoldable pub each : {S : Type 0} → (Tree → M S Tree) → List Tree → M S (List Tree)
 unfolding _>>=_ give
 each f [] = give []
 each f (t ∷ ts) = do
@@ -107,12 +108,12 @@ none-of f (t ∷ ts) = not (f t) && none-of f ts
 
 -- what becomes of the changed body of r: "kept if it seems constant (then it is optimised), or if it is a proper list none of whose
 -- optimised operands is" counted; "otherwise the rule gives back its input". `low`: substitution read a low atom
-unfoldable pub settle : (Tree → W Tree) → Tree → Tree → Bool → W Tree
+unfoldable pub settle-over : (K : Over) → (Tree → M (K .S) Tree) → Tree → Tree → Bool → M (K .S) Tree
 unfolding seems-constant proper-list each none-of non-constant charge mark-if enlist give _>>=_ _>>_
-settle again r new low = elim (seems-constant new) [
+settle-over K again r new low = elim (seems-constant new) [
   | true ↦ (do
     t ← again new
-    mark-if low
+    K .in-run (mark-if low)
     give t)
   | false ↦ elim (proper-list new) [
     | none ↦ give r
@@ -120,20 +121,28 @@ settle again r new low = elim (seems-constant new) [
       us ← each again es
       elim (none-of non-constant us) [
         | true ↦ (do
-          charge (pair-cost * length us)
-          mark-if low
+          K .in-run (charge (pair-cost * length us))
+          K .in-run (mark-if low)
           give (enlist us))
         | false ↦ give r
       ])
   ]
 ]
 
-unfoldable pub var-change-optimizer-cons-eval : (Tree → W Tree) → Tree → W Tree
-unfolding applied-of sub-args sub-cost reads-low settle charge give _>>_
-var-change-optimizer-cons-eval again r = elim (applied-of r) [
-  | applied s a ↦ charge (sub-cost s a) >> settle again r (sub-args s a) (reads-low s)
+unfoldable pub settle : (Tree → W Tree) → Tree → Tree → Bool → W Tree
+unfolding settle-over
+settle = settle-over alone
+
+unfoldable pub var-change-optimizer-cons-eval-over : (K : Over) → (Tree → M (K .S) Tree) → Tree → M (K .S) Tree
+unfolding applied-of sub-args sub-cost reads-low settle-over charge give _>>_
+var-change-optimizer-cons-eval-over K again r = elim (applied-of r) [
+  | applied s a ↦ K .in-run (charge (sub-cost s a)) >> settle-over K again r (sub-args s a) (reads-low s)
   | not-applied ↦ give r
 ]
+
+unfoldable pub var-change-optimizer-cons-eval : (Tree → W Tree) → Tree → W Tree
+unfolding var-change-optimizer-cons-eval-over settle
+var-change-optimizer-cons-eval = var-change-optimizer-cons-eval-over alone
 
 -- ---- 5. `children_optimizer`: "every element of a non-empty proper list not headed by the byte 1 is worked, head included"
 
@@ -149,15 +158,23 @@ unfoldable pub relist : Tree → List Tree → List Tree → W Tree
 unfolding same-trees charge enlist give _>>_
 relist r es us = elim (same-trees es us) [ true ↦ give r | false ↦ charge (pair-cost * length us) >> give (enlist us) ]
 
-unfoldable pub children : (Tree → W Tree) → Tree → Option (List Tree) → W Tree
+unfoldable pub children-over : (K : Over) → (Tree → M (K .S) Tree) → Tree → Option (List Tree) → M (K .S) Tree
 unfolding each relist give _>>=_
-children again r none = give r
-children again r (some []) = give r
-children again r (some (e ∷ es)) = each again (e ∷ es) >>= relist r (e ∷ es)
+children-over K again r none = give r
+children-over K again r (some []) = give r
+children-over K again r (some (e ∷ es)) = each again (e ∷ es) >>= λ us. K .in-run (relist r (e ∷ es) us)
+
+unfoldable pub children : (Tree → W Tree) → Tree → Option (List Tree) → W Tree
+unfolding children-over
+children = children-over alone
+
+unfoldable pub children-optimizer-over : (K : Over) → (Tree → M (K .S) Tree) → Tree → M (K .S) Tree
+unfolding is-quote children-over proper-list give
+children-optimizer-over K again r = elim (is-quote r) [ true ↦ give r | false ↦ children-over K again r (proper-list r) ]
 
 unfoldable pub children-optimizer : (Tree → W Tree) → Tree → W Tree
-unfolding is-quote children proper-list give
-children-optimizer again r = elim (is-quote r) [ true ↦ give r | false ↦ children again r (proper-list r) ]
+unfolding children-optimizer-over children
+children-optimizer = children-optimizer-over alone
 
 -- ---- 6. `path_optimizer`: "`(f N)` and `(r N)` become compose(N, 2) and compose(N, 3)"
 

@@ -5,9 +5,9 @@ use mathlib.Core.Bool.{Bool, true, false}
 use lib.ListN.{length}
 use Rattle.meaning.specs.Tree.{Tree}
 use Rattle.meaning.specs.Limits.{nesting-limit}
-use Rattle.meaning.specs.Meter.{Out, done, stop, Spent}
+use Rattle.meaning.specs.Meter.{Out, done, stop, Spent, Log}
 use Rattle.meaning.specs.Form.{Reading, read-form}
-use Rattle.meaning.specs.Driver.{optimize-sexp}
+use Rattle.meaning.specs.Driver.{optimize-sexp, ends}
 use Rattle.meaning.specs.Outcome.{Outcome, plain, answered, deliver-tree, ended, in-room}
 
 -- "The mark is 1 if .. Otherwise 0"
@@ -33,6 +33,16 @@ worked-on (stop n r) = stop n (after-reading r)
 unfoldable pub worked : List ℕ → Out Spent Tree
 unfolding read-form worked-on
 worked form = worked-on (read-form form 0)
+
+-- the passes that rules ended in the work on a form, thrown-away work included: none where the reader refuses it
+unfoldable pub ends-on : Out Reading Tree → Log
+unfolding ends
+ends-on (done t r) = ends nesting-limit t (after-reading r)
+ends-on (stop n r) = []
+
+unfoldable pub ends-in : List ℕ → Log
+unfolding read-form ends-on
+ends-in form = ends-on (read-form form 0)
 
 -- the finished tree, and what the run took
 unfoldable pub deliver-run : ℕ → Tree → Spent → Outcome

@@ -13,13 +13,15 @@ use Rattle.store.specs.Nodes.{treeAt, printOf}
 use Rattle.store.specs.Store.{Ready}
 use Rattle.store.proofs.Ready.{room}
 use Rattle.run_state.specs.declared.Entry.{Entry}
+use Rattle.run_state.specs.declared.Notes.{Notes}
+use Rattle.run_state.specs.declared.Notes.the-variants.{Nothing, Counts}
 use Rattle.run_state.specs.declared.Work.{Work}
 use Rattle.run_state.specs.State.{entryAt, Sounds}
 use Rattle.run_state.proofs.Entries.{few, sound-at}
 use Rattle.memo.specs.declared.Verdict.{Verdict}
 use Rattle.memo.specs.declared.Answer.{Answer}
 use Rattle.memo.specs.declared.Answer.the-variants.{Unknown}
-use Rattle.memo.specs.Policy.{low-print, deep-limit, look-limit, alike-in, candidate, or-else, first-hit, hit-says, says-at, memo-says}
+use Rattle.memo.specs.Policy.{low-print, deep-limit, look-limit, alike-in, candidate, or-else, first-hit, hit-says, says-at, memo-says, unless-noted}
 use Rattle.memo.specs.Memo.{AnswerOk, Looked}
 use Rattle.memo.proofs.Comparing.{alike-right}
 use Rattle.memo.proofs.Hits.{Matches, unknown, hit-right}
@@ -132,14 +134,20 @@ module _ (f s : List ℕ) (row : List (List ℕ)) (w : Work) (used n nest : ℕ)
           (λ y. let l = ltb-true i used y in rw y (hit-right f s w n nest (entryAt row i) (sound-at v i l) (hit-matches f s row n nest used look-limit 0 i e (omega arith)) r))
           (λ y. rw y (unknown f s w n nest))
 
-  looked : (a : Answer) → a ≡ memo-says f s row w used n nest → Looked f s row w used n nest a
+  looked : (a : Answer) → a ≡ memo-says f s row w used n nest → Looked f s row w used n nest Nothing a
+  unfolding unless-noted
   looked a e = record { right = rw e says-right; says = e }
 
-  module _ (i : ℕ) (ei : i ≡ first-hit f s row n nest used look-limit 0) where
-    pub miss : used ≤ i → Looked f s row w used n nest Unknown
-    unfolding memo-says says-at
-    miss l = looked Unknown (rw (← ei, le-ltb i used l))
+  -- it is not asked
+  pub noting : (notes : Notes) → notes ≡ Counts → Looked f s row w used n nest notes Unknown
+  unfolding unless-noted
+  noting notes e = rw e (record { right = unknown f s w n nest; says = refl })
 
-    pub hit : i < used → (e : Entry) → e ≡ entryAt row i → (a : Answer) → a ≡ hit-says w e → Looked f s row w used n nest a
+  module _ (i : ℕ) (ei : i ≡ first-hit f s row n nest used look-limit 0) (notes : Notes) (silent : notes ≡ Nothing) where
+    pub miss : used ≤ i → Looked f s row w used n nest notes Unknown
     unfolding memo-says says-at
-    hit l e ee a ea = looked a (rw (← ei, lt-ltb i used l, ea, ee))
+    miss l = rw silent (looked Unknown (rw (← ei, le-ltb i used l)))
+
+    pub hit : i < used → (e : Entry) → e ≡ entryAt row i → (a : Answer) → a ≡ hit-says w e → Looked f s row w used n nest notes a
+    unfolding memo-says says-at
+    hit l e ee a ea = rw silent (looked a (rw (← ei, lt-ltb i used l, ea, ee)))

@@ -2,7 +2,7 @@
 use mathlib.Core.Path.{_≡_, refl, _∙_, ap}
 use mathlib.Core.List.{List}
 use mathlib.Core.Bool.{true, false}
-use Prim.Native.Nat.{ℕ, _+_, _<_, _≤_}
+use Prim.Native.Nat.{ℕ, _+_, _^_, _<_, _≤_}
 use native.Mathlib.Omega.{arith}
 use lib.ListN.{length, set}
 use lib.Dec.{eqb, ltb}
@@ -20,8 +20,9 @@ use Rattle.run_state.specs.declared.Work.{Work}
 use Rattle.run_state.specs.declared.Entry.{Entry}
 use Rattle.run_state.specs.declared.State.{State}
 use Rattle.run_state.specs.Work.{spentOf}
+use Rattle.run_state.specs.Notes.{count-records}
 use Rattle.run_state.specs.State.{recordOf, Sound, Sounds, Valid}
-use Rattle.run_state.proofs.Entries.{sounds-more}
+use Rattle.run_state.proofs.Entries.{few, sounds-more}
 use Rattle.memo.specs.Policy.{low-print, entry-of, is-stored, row-after, used-after}
 use Rattle.memo.specs.Memo.{Ended, Small, Stored}
 
@@ -62,9 +63,16 @@ module _ (f s : List ℕ) (b a : Work) (n r nest : ℕ) (h : Ended f s b a n r n
 
 -- ---- store
 
-has-room : (row : List (List ℕ)) (st : State) (b : Work) → is-stored row st b ≡ true → st .used < length row
+pub has-room : (row : List (List ℕ)) (st : State) (b : Work) → is-stored row st b ≡ true → st .used + count-records < length row
 unfolding is-stored
-has-room row st b y = on-bool (ltb (st .used) (length row)) (λ x. ltb-true (st .used) (length row) x) (λ x. not-false (rw x at y))
+has-room row st b y = on-bool (ltb (st .used + count-records) (length row)) (λ x. ltb-true (st .used + count-records) (length row) x) (λ x. not-false (rw x at y))
+
+-- the counts stand behind the entries
+pub behind-fits : (f s : List ℕ) (row : List (List ℕ)) (st : State) → Valid f s row st → length row < 2 ^ 64 → st .used + 8 < 2 ^ 64
+behind-fits f s row st v l = within (st .used + 8) (length row) (2 ^ 64) (few v) l
+  where
+    within : (a b c : ℕ) → a ≤ b → b < c → a < c
+    within a b c x y = omega arith
 
 module _ (f s : List ℕ) (row : List (List ℕ)) (st : State) (b : Work) (n r nest : ℕ) (v : Valid f s row st) (h : Ended f s b (st .w) n r nest) where
   -- the row is sound after a call as the policy has it
@@ -81,27 +89,27 @@ module _ (f s : List ℕ) (row : List (List ℕ)) (st : State) (b : Work) (n r n
   unfolding row-after used-after
   not-stored e = stored row (st .used) (rw e) (rw e)
 
-  pub row-full : length row ≤ st .used → Stored f s row row st b n r nest st
+  pub row-full : length row ≤ st .used + count-records → Stored f s row row st b n r nest st
   unfolding is-stored
-  row-full l = not-stored (rw (le-ltb (st .used) (length row) l))
+  row-full l = not-stored (rw (le-ltb (st .used + count-records) (length row) l))
 
   pub no-pass : st .w .passes ≡ b .passes → Stored f s row row st b n r nest st
   unfolding is-stored
   no-pass e =
       let z : eqb (st .w .passes) (b .passes) ≡ true = eq-eqb (st .w .passes) (b .passes) e in
-      not-stored (on-bool (ltb (st .used) (length row)) (λ y. rw (y, z)) (λ y. rw y))
+      not-stored (on-bool (ltb (st .used + count-records) (length row)) (λ y. rw (y, z)) (λ y. rw y))
 
   module _ (d : st .w .passes ≡ b .passes → ⊥) where
     pub none-left : pass-limit ≤ st .w .passes → Stored f s row row st b n r nest st
     unfolding is-stored
     none-left l =
         let z : ltb (st .w .passes) pass-limit ≡ false = le-ltb (st .w .passes) pass-limit l in
-        not-stored (on-bool (ltb (st .used) (length row)) (λ y. rw (y, ne-eqb (st .w .passes) (b .passes) d, z)) (λ y. rw y))
+        not-stored (on-bool (ltb (st .used + count-records) (length row)) (λ y. rw (y, ne-eqb (st .w .passes) (b .passes) d, z)) (λ y. rw y))
 
-    module _ (l : st .used < length row) (few : st .w .passes < pass-limit) where
+    module _ (l : st .used + count-records < length row) (few : st .w .passes < pass-limit) where
       yes-stored : is-stored row st b ≡ true
       unfolding is-stored
-      yes-stored = rw (lt-ltb (st .used) (length row) l, ne-eqb (st .w .passes) (b .passes) d, lt-ltb (st .w .passes) pass-limit few)
+      yes-stored = rw (lt-ltb (st .used + count-records) (length row) l, ne-eqb (st .w .passes) (b .passes) d, lt-ltb (st .w .passes) pass-limit few)
 
       pub one-more : (row′ : List (List ℕ)) (e : Entry) (low key : ℕ) → row′ ≡ set row (st .used) (recordOf e) → e ≡ entry-of b (st .w) n r nest low → low ≡ low-print key → key ≡ printOf (treeAt f s n)
           → Stored f s row row′ st b n r nest (record { w = st .w; used = st .used + 1 })

@@ -13,11 +13,12 @@ use Rattle.store.specs.Store.{Ready}
 use Rattle.store.specs.Makers.{Grown}
 use Rattle.run_state.specs.declared.Work.{Work}
 use Rattle.run_state.specs.declared.State.{State}
+use Rattle.run_state.specs.declared.Notes.{Notes}
 use Rattle.run_state.specs.Work.{spentOf, Did}
 use Rattle.run_state.specs.State.{Valid}
 use Rattle.memo.specs.declared.Answer.{Answer}
 use Rattle.memo.specs.declared.Answer.the-variants.{Known, Unknown}
-use Rattle.memo.specs.Policy.{memo-says, row-after, used-after}
+use Rattle.memo.specs.Policy.{memo-says, unless-noted, row-after, used-after}
 
 -- ---- a lookup
 
@@ -32,9 +33,9 @@ AnswerOk f s w n nest (Known w′) = Hit f s w w′ n nest
 AnswerOk f s w n nest Unknown = Unit
 
 -- what `lookup` answers: by the policy, and rightly
-pub record Looked (f s : List ℕ) (row : List (List ℕ)) (w : Work) (used n nest : ℕ) (a : Answer) : Type 0 where
+pub record Looked (f s : List ℕ) (row : List (List ℕ)) (w : Work) (used n nest : ℕ) (notes : Notes) (a : Answer) : Type 0 where
   pub right : AnswerOk f s w n nest a
-  pub says : a ≡ memo-says f s row w used n nest
+  pub says : a ≡ unless-noted notes (memo-says f s row w used n nest)
 
 -- ---- storing
 

@@ -13,6 +13,9 @@ use Rattle.run_state.specs.declared.Work.{Work}
 use Rattle.run_state.specs.declared.Entry.{Entry}
 use Rattle.run_state.specs.declared.State.{State}
 use Rattle.run_state.specs.State.{recordOf, entryAt}
+use Rattle.run_state.specs.declared.Notes.{Notes}
+use Rattle.run_state.specs.declared.Notes.the-variants.{Nothing, Counts}
+use Rattle.run_state.specs.Notes.{count-records}
 use Rattle.sexp.specs.declared.Compared.{Compared}
 use Rattle.sexp.specs.declared.Compared.the-variants.{Told, Parts}
 use Rattle.sexp.specs.Canon.{compared}
@@ -99,15 +102,20 @@ unfoldable pub memo-says : List ℕ → List ℕ → List (List ℕ) → Work �
 unfolding first-hit says-at
 memo-says f s row w used n nest = says-at row w used (first-hit f s row n nest used look-limit 0)
 
+-- where something is noted the memo is not asked: a hit would skip it
+unfoldable pub unless-noted : Notes → Answer → Answer
+unless-noted Nothing a = a
+unless-noted Counts a = Unknown
+
 -- ---- storing
 
 -- the entry of a call on n at nesting `nest` that began with b spent and ended at r with a spent
 abbrev pub entry-of : Work → Work → ℕ → ℕ → ℕ → ℕ → Entry
 entry-of b a n r nest print = record { expr = n; result = r; passes = a .passes - b .passes; units = a .ch .units - b .ch .units; height = height-at nest; print = print }
 
--- a call is stored: the row has a free record, the call charged a pass, and passes are left
+-- a call is stored: the row has a free record before its counts, the call charged a pass, and passes are left
 unfoldable pub is-stored : List (List ℕ) → State → Work → Bool
-is-stored row st b = ltb (st .used) (length row) && not (eqb (st .w .passes) (b .passes)) && ltb (st .w .passes) pass-limit
+is-stored row st b = ltb (st .used + count-records) (length row) && not (eqb (st .w .passes) (b .passes)) && ltb (st .w .passes) pass-limit
 
 -- the row after a call
 unfoldable pub row-after : List ℕ → List ℕ → List (List ℕ) → State → Work → ℕ → ℕ → ℕ → List (List ℕ)

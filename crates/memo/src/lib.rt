@@ -1,5 +1,6 @@
 // The memo: finished expressions, found by fingerprint and compared by structure, and what a hit charges.
 use run_state::Entry;
+use run_state::Notes;
 use run_state::Outcome;
 use run_state::Record;
 use run_state::State;
@@ -235,7 +236,7 @@ fn charged(w: Work, e: Entry) -> Answer
     })
 }
 
-// What the memo says of a call on n at nesting `nest`.
+// What the memo says of a call on n at nesting `nest`: nothing where something is noted.
 pub fn lookup<'a>(
     form: &'a [u8],
     room: &'a [u8],
@@ -244,10 +245,17 @@ pub fn lookup<'a>(
     used: usize,
     n: usize,
     nest: usize,
+    notes: Notes,
 ) -> Answer
     requires { ⌜ Ready (now form) (now room) (w .ch) n × Sounds (now form) (now room) (w .ch) (w .mark) used (now row) × (nest < 65) × (w .passes ≤ pass-limit) ⌝ }
-    ensures { λ r. ⌜ Looked (now (form .entry)) (now (room .entry)) (now (row .entry)) w used n nest r ⌝ }
+    ensures { λ r. ⌜ Looked (now (form .entry)) (now (room .entry)) (now (row .entry)) w used n nest notes r ⌝ }
 {
+    match notes {
+        Notes::Counts => {
+            return Answer::Unknown;
+        }
+        Notes::Nothing => {}
+    }
     let i = find(form, room, row, w, used, n, nest);
     if used <= i {
         return Answer::Unknown;
@@ -292,7 +300,7 @@ pub fn store<'a>(
 {
     let k = st.used;
     let a = st.w;
-    if row.len() <= k {
+    if row.len() <= k + 8 {
         return st;
     }
     if a.passes == b.passes {

@@ -2,7 +2,9 @@
 use form::Extent;
 use patterns::Patterns;
 use refusals::Refusal;
+use run_state::Notes;
 use run_state::Outcome;
+use run_state::Record;
 use run_state::Work;
 use store::Charges;
 use store::Made;
@@ -12,7 +14,8 @@ ghost use Prim.Native.Nat.{_≤_};
 ghost use lib.ListN.{length};
 ghost use Rattle.meaning.specs.Limits.{room-least};
 ghost use Rattle.meaning.specs.Outcome.{ended, Delivers};
-ghost use Rattle.meaning.specs.Run.{worked, deliver-run};
+ghost use Rattle.meaning.specs.Run.{worked, ends-in, deliver-run};
+ghost use Rattle.run_state.specs.Notes.{count-records, Noted};
 ghost use Rattle.optimiser.specs.Optimised.{says, Optimised};
 ghost use Rattle.optimiser.specs.Worked.{Fresh, finish-at, WorkedOk};
 
@@ -47,14 +50,18 @@ fn finish(w: Work, n: usize) -> Finished
     }
 }
 
-// Reads the form and works its tree.
+// Reads the form and works its tree. The memo's row is lent after the reading: so its bytes are those that the reader had.
 fn read_and_work(form: &[u8], room: &mut [u8], p: Patterns, ch: Charges) -> Finished
     requires { ⌜ Fresh (now form) (now room) ch p ⌝ }
     ensures { λ r. ⌜ WorkedOk (now (form .entry)) (now (room .exit)) r ⌝ }
 {
     match form::read_form(form, room, 0, form.len(), ch) {
         Made::Refused(e) => Finished::Refused(e),
-        Made::Node(n, c) => finish(driver::optimize_node(form, room, p, c, n), n),
+        Made::Node(n, c) => {
+            let mut row = [[0u16; 6]; 256];
+            let w = driver::optimize_node(form, room, &mut row[..], p, c, n, Notes::Nothing);
+            finish(w, n)
+        }
     }
 }
 
@@ -68,6 +75,38 @@ pub fn worked(form: &[u8], room: &mut [u8]) -> Finished
     let p = a.patterns;
     let c = a.ch;
     read_and_work(form, room, p, c)
+}
+
+// The same with a row of the caller's, in which what is noted stands after.
+fn read_and_note(
+    form: &[u8],
+    room: &mut [u8],
+    row: &mut [Record],
+    p: Patterns,
+    ch: Charges,
+    notes: Notes,
+) -> Finished
+    requires { ⌜ Fresh (now form) (now room) ch p × (count-records ≤ length (now row)) ⌝ }
+    ensures { λ r. ⌜ WorkedOk (now (form .entry)) (now (room .exit)) r × Noted notes (now (row .entry)) (now (row .exit)) (ends-in (now (form .entry))) ⌝ }
+{
+    match form::read_form(form, room, 0, form.len(), ch) {
+        Made::Refused(e) => Finished::Refused(e),
+        Made::Node(n, c) => {
+            let w = driver::optimize_node(form, room, row, p, c, n, notes);
+            finish(w, n)
+        }
+    }
+}
+
+pub fn worked_noting(form: &[u8], room: &mut [u8], row: &mut [Record], notes: Notes) -> Finished
+    requires { ⌜ (room-least ≤ length (now room)) × (count-records ≤ length (now row)) ⌝ }
+    ensures { λ r. ⌜ WorkedOk (now (form .entry)) (now (room .exit)) r × Noted notes (now (row .entry)) (now (row .exit)) (ends-in (now (form .entry))) ⌝ }
+{
+    let ch = store::start(form, room);
+    let a = patterns::lay_patterns(form, room, ch);
+    let p = a.patterns;
+    let c = a.ch;
+    read_and_note(form, room, row, p, c, notes)
 }
 
 // Writes the finished tree where it fits.

@@ -39,8 +39,13 @@ fn of_text() {
     line(Refusal::TextLong, b"text over 32,768 bytes");
 }
 
+fn of_report() {
+    line(Refusal::ReportFull, b"a 4,097th form of a report");
+}
+
 fn main() {
     reading();
     working();
     of_text();
+    of_report();
 }

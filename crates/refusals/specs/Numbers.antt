@@ -2,9 +2,9 @@
 use Prim.Native.Nat.{ℕ}
 use mathlib.Core.Bool.{Bool, true, false}
 use Rattle.refusals.specs.declared.Refusal.{Refusal}
-use Rattle.refusals.specs.declared.Refusal.the-variants.{RoomSmall, FormLong, EndsEarly, BadPrefix, AtomLong, BytesAfter, UnitsOut, Fails, NoOperator, StepsOut, PathLong, PassesOut, TooDeep, OutputShort, NoParse, TextLong}
+use Rattle.refusals.specs.declared.Refusal.the-variants.{RoomSmall, FormLong, EndsEarly, BadPrefix, AtomLong, BytesAfter, UnitsOut, Fails, NoOperator, StepsOut, PathLong, PassesOut, TooDeep, OutputShort, NoParse, TextLong, ReportFull}
 
--- 01's table; 15 and 16 are of the notation (02, "Ask 1")
+-- 01's table; 15 and 16 are of the notation (02, "Ask 1"), 17 is of the report over a list of forms ("Ask 2")
 abbrev pub number-of : Refusal → ℕ
 number-of RoomSmall = 1
 number-of FormLong = 2
@@ -22,6 +22,7 @@ number-of TooDeep = 13
 number-of OutputShort = 14
 number-of NoParse = 15
 number-of TextLong = 16
+number-of ReportFull = 17
 
 -- "Lent working room is all zero after any return but refusal 1, which leaves it unchanged": whether a refusal comes before the room is touched
 abbrev pub leaves-room : Refusal → Bool
@@ -41,3 +42,4 @@ leaves-room TooDeep = false
 leaves-room OutputShort = false
 leaves-room NoParse = false
 leaves-room TextLong = false
+leaves-room ReportFull = false

@@ -19,6 +19,7 @@ pub enum Refusal {
     OutputShort,
     NoParse,
     TextLong,
+    ReportFull,
 }
 
 // The number that document 01's table, or 02's request, gives a refusal.
@@ -42,5 +43,6 @@ pub fn number_of(r: Refusal) -> u8
         Refusal::OutputShort => 14,
         Refusal::NoParse => 15,
         Refusal::TextLong => 16,
+        Refusal::ReportFull => 17,
     }
 }

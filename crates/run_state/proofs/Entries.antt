@@ -16,12 +16,13 @@ use Rattle.run_state.specs.declared.Outcome.{Outcome}
 use Rattle.run_state.specs.declared.Outcome.the-variants.{Same, Changed, Stopped}
 use Rattle.run_state.specs.declared.Entry.{Entry}
 use Rattle.run_state.specs.declared.State.{State}
+use Rattle.run_state.specs.Notes.{count-records}
 use Rattle.run_state.specs.State.{entryAt, recordOf, Sound, Sounds, sounds, Valid, Unless-stopped, Still}
 
 -- ---- the entries in use
 
--- they stand in the row
-pub few : {f s : List ℕ} {c : Charges} {m : Bool} {used : ℕ} {row : List (List ℕ)} → Sounds f s c m used row → used ≤ length row
+-- they stand in the row, before the counts
+pub few : {f s : List ℕ} {c : Charges} {m : Bool} {used : ℕ} {row : List (List ℕ)} → Sounds f s c m used row → used + count-records ≤ length row
 few (sounds a h) = a
 
 -- each in use is sound
@@ -29,7 +30,7 @@ pub sound-at : {f s : List ℕ} {c : Charges} {m : Bool} {used : ℕ} {row : Lis
 sound-at (sounds a h) i l = h i l
 
 -- one entry more
-pub sounds-more : {f s : List ℕ} {c : Charges} {m : Bool} {used : ℕ} {row : List (List ℕ)} (e : Entry) → Sounds f s c m used row → used < length row → Sound f s c m e
+pub sounds-more : {f s : List ℕ} {c : Charges} {m : Bool} {used : ℕ} {row : List (List ℕ)} (e : Entry) → Sounds f s c m used row → used + count-records < length row → Sound f s c m e
     → Sounds f s c m (used + 1) (set row used (recordOf e))
 sounds-more {f} {s} {c} {m} {used} {row} e (sounds b h) l k = sounds (rw (length-set row used (recordOf e)) (omega arith)) at-place
   where
@@ -37,7 +38,7 @@ sounds-more {f} {s} {c} {m} {used} {row} e (sounds b h) l k = sounds (rw (length
     at-place i o = go (decLe used i)
       where
         go : Dec (used ≤ i) → Sound f s c m (entryAt (set row used (recordOf e)) i)
-        go (yes q) = let z : i ≡ used = omega arith in rw (z, getD-set-same row used (recordOf e) [] l) k
+        go (yes q) = let z : i ≡ used = omega arith in rw (z, getD-set-same row used (recordOf e) [] (omega arith)) k
         go (no q) = rw (getD-set-other row used i (recordOf e) [] (λ z. q (omega arith))) (h i (omega arith))
 
 -- ---- as the store grows

@@ -1,5 +1,5 @@
 -- The memo: its records in a row, what its entries say, and the memo of a run's state.
-use Prim.Native.Nat.{ℕ, _<_, _≤_}
+use Prim.Native.Nat.{ℕ, _+_, _<_, _≤_}
 use mathlib.Core.Path.{_≡_}
 use mathlib.Core.List.{List, [], _∷_}
 use mathlib.Core.Bool.{Bool, true, false}
@@ -10,6 +10,7 @@ use Rattle.meaning.proofs.Memo as law
 use Rattle.store.specs.declared.Charges.{Charges}
 use Rattle.store.specs.Nodes.{treeAt}
 use Rattle.store.specs.Store.{Ready}
+use Rattle.run_state.specs.Notes.{count-records}
 use Rattle.run_state.specs.declared.Outcome.{Outcome}
 use Rattle.run_state.specs.declared.Outcome.the-variants.{Same, Changed, Stopped}
 use Rattle.run_state.specs.declared.Entry.{Entry}
@@ -41,9 +42,9 @@ pub record Sound (f s : List ℕ) (c : Charges) (mark : Bool) (e : Entry) : Type
   -- the result is the expression's own node where the work changed nothing
   pub differs : (e .expr ≡ e .result → ⊥) → equal-to (treeAt f s (e .expr)) (treeAt f s (e .result)) ≡ false
 
--- every entry in use is sound (data, not a record: `search` builds records)
+-- every entry in use is sound, and none is where the counts are (data, not a record: `search` builds records)
 pub data Sounds (f s : List ℕ) (c : Charges) (mark : Bool) (used : ℕ) (row : List (List ℕ)) : Type 0 where
-  sounds : used ≤ length row → ((i : ℕ) → i < used → Sound f s c mark (entryAt row i)) → Sounds f s c mark used row
+  sounds : used + count-records ≤ length row → ((i : ℕ) → i < used → Sound f s c mark (entryAt row i)) → Sounds f s c mark used row
 
 -- the memo of a state, which stands in the row
 abbrev pub Valid : List ℕ → List ℕ → List (List ℕ) → State → Type 0

@@ -19,3 +19,8 @@ pub use texts::optimise_text;
 pub use texts::read_text;
 pub use texts::text_fault;
 pub use texts::write_text;
+pub use totals::Added;
+pub use totals::Column;
+pub use totals::Savings;
+pub use totals::add_form;
+pub use totals::none_yet;

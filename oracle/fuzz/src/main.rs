@@ -4,20 +4,23 @@
 
 use std::cell::RefCell;
 
+use oracle::savings::Savings;
 use scale::{Both, Lengths, Work};
 
 thread_local! {
     static BOTH: RefCell<Option<Both>> = const { RefCell::new(None) };
 }
 
-/// Half of all first bytes mean the optimiser with the usual lengths; `build` writes 0 before each form that it starts from.
+/// Half of all first bytes mean the optimiser with the usual lengths; `build` writes 0 before each form that it starts from, and
+/// 11, a report over that form.
 fn chosen(choice: u8, argument: u8, length: usize) -> (Work, Lengths) {
     let usual = Lengths::USUAL;
     let first = argument as usize % (length + 1);
     match choice % 16 {
         8 => (Work::Optimise, Lengths { out: argument as usize, ..usual }),
         9 => (Work::Optimise, Lengths { room: umlazgrin::ROOM - 1 + argument as usize % 4, ..usual }),
-        10 | 11 => (Work::Evaluate { first }, usual),
+        10 => (Work::Evaluate { first }, usual),
+        11 => (Work::AddForm { before: Savings::default() }, usual),
         12 => (Work::Match { first }, usual),
         13 => (Work::MatchPlace { first }, usual),
         14 => (Work::Check, usual),

@@ -6,6 +6,7 @@ pub mod modes;
 pub mod paths;
 pub mod readable;
 pub mod runner;
+pub mod savings;
 
 use clvm_rs::allocator::Allocator;
 use clvm_rs::run::Bounds;

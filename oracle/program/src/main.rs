@@ -5,10 +5,24 @@ use std::process::ExitCode;
 use std::thread;
 
 use oracle::modes::{answer, Mode};
+use oracle::savings::print_report;
 use oracle::{store, STACK};
 
 const USAGE: &str = "Give one mode: tree, full, full --trace, full --rules, full --causes, match, eval, rule 1 to rule 8, read, \
-read-text, write-text, optimise-text, evaluate-text, text-fault, or paths.";
+read-text, write-text, optimise-text, evaluate-text, text-fault, paths, or savings.";
+
+/// An answer for each line, or one report over all of them.
+enum Asked {
+    Lines(Mode),
+    Savings,
+}
+
+fn asked(words: &[String]) -> Option<Asked> {
+    match words {
+        [word] if word == "savings" => Some(Asked::Savings),
+        _ => mode(words).map(Asked::Lines),
+    }
+}
 
 fn mode(words: &[String]) -> Option<Mode> {
     let words: Vec<&str> = words.iter().map(|w| w.as_str()).collect();
@@ -39,13 +53,16 @@ fn main() -> ExitCode {
         .skip(1)
         .map(|w| w.to_string_lossy().into_owned())
         .collect();
-    let Some(mode) = mode(&words) else {
+    let Some(asked) = asked(&words) else {
         eprintln!("{USAGE}");
         return ExitCode::from(2);
     };
     let worker = thread::Builder::new()
         .stack_size(STACK)
-        .spawn(move || run(mode));
+        .spawn(move || match asked {
+            Asked::Lines(mode) => run(mode),
+            Asked::Savings => savings(),
+        });
     let worker = match worker {
         Ok(worker) => worker,
         Err(e) => {
@@ -96,9 +113,24 @@ fn run(mode: Mode) -> io::Result<ExitCode> {
         eprintln!("On {broken} of the lines the oracle contradicts itself; look for `broken`.");
         return Ok(ExitCode::from(2));
     }
+    Ok(status(no_line))
+}
+
+fn savings() -> io::Result<ExitCode> {
+    let mut input = BufReader::with_capacity(1 << 16, io::stdin());
+    let mut output = BufWriter::with_capacity(1 << 16, io::stdout());
+    let beside = print_report(&mut store(false), &mut input, &mut output)?;
+    if beside.lost > 0 {
+        eprintln!("The report is without {} forms: the oracle gave up on them or contradicts itself.", beside.lost);
+        return Ok(ExitCode::from(2));
+    }
+    Ok(status(beside.no_lines))
+}
+
+fn status(no_line: u64) -> ExitCode {
     if no_line > 0 {
         eprintln!("Of the lines, {no_line} did not hold hex as this mode wants it, or lacked a second one; they are answered `no line`.");
-        return Ok(ExitCode::from(1));
+        return ExitCode::from(1);
     }
-    Ok(ExitCode::SUCCESS)
+    ExitCode::SUCCESS
 }

@@ -15,7 +15,7 @@ use crate::readable::{read_text, text_fault, write_text};
 use crate::runner::{evaluate, Runner};
 
 /// What a result may be written into.
-const OUTPUT: usize = 32_768;
+pub const OUTPUT: usize = 32_768;
 /// `tree` has no such limit; a longer result is given up.
 const TREE_OUTPUT: usize = 1 << 20;
 

@@ -1,5 +1,6 @@
 //! The library's side: what is lent to it, and what it left there.
 
+use oracle::savings::NUMBERS;
 use umlazgrin::raw;
 
 use crate::rust::{Want, NO_MATCH, PLACE};
@@ -17,6 +18,7 @@ pub struct Lent {
     out: Vec<u8>,
     report: [usize; 5],
     place: [u8; PLACE],
+    savings: [u64; NUMBERS],
     number: u8,
     /// What room and output hold before a call: bytes without order.
     noise: Vec<u8>,
@@ -31,6 +33,7 @@ impl Lent {
             out: vec![0; MOST_OUT],
             report: [0; 5],
             place: [0; PLACE],
+            savings: [0; NUMBERS],
             number: 0,
             noise: (0..MOST_ROOM).map(|_| random.next() as u8).collect(),
             zeros: vec![0; MOST_ROOM],
@@ -48,6 +51,10 @@ impl Lent {
         let (out, out_length) = (self.out[..lengths.out].as_mut_ptr(), lengths.out);
         let report = self.report.as_mut_ptr();
         let place = self.place.as_mut_ptr();
+        if let Work::AddForm { before } = work {
+            self.savings = before.numbers();
+        }
+        let savings = self.savings.as_mut_ptr();
         // Each slice is live, apart from the others and as long as it says; the report has room for the longest.
         self.number = unsafe {
             match work {
@@ -66,6 +73,7 @@ impl Lent {
                 }
                 Work::Check => raw::umlazgrin_check(form, count, room, room_length, report.cast()),
                 Work::Write => raw::umlazgrin_write(form, count, room, room_length, out, out_length, report.cast()),
+                Work::AddForm { .. } => raw::umlazgrin_add_form(form, count, room, room_length, savings.cast()),
             }
         };
     }
@@ -76,6 +84,7 @@ impl Lent {
             Want::Answer { bytes, report } => (0, bytes, report),
             Want::Number(number) => (*number, &[], &[]),
             Want::NoMatch { .. } => (NO_MATCH, &[], &[]),
+            Want::Added { number, .. } => (*number, &[], &[]),
             _ => return Ok(()),
         };
         if self.number != number {
@@ -84,6 +93,9 @@ impl Lent {
         let reported = &self.report[..report.len()];
         if reported != report || self.report[report.len()..].iter().any(|n| *n != BEFORE) {
             return Err(format!("the library reports {:?}, the Rust {report:?}", self.report));
+        }
+        if let Want::Added { after, .. } = want {
+            same_numbers(&self.savings, &after.numbers())?;
         }
         let place = if let Want::NoMatch { place } = want { &place[..] } else { &self.noise[..PLACE] };
         if self.place != place {
@@ -99,6 +111,14 @@ impl Lent {
             return Err("the room differs".to_string());
         }
         Ok(())
+    }
+}
+
+/// The first number of a report that differs, in the order of the C structure.
+fn same_numbers(said: &[u64; NUMBERS], wanted: &[u64; NUMBERS]) -> Result<(), String> {
+    match said.iter().zip(wanted).position(|(one, other)| one != other) {
+        None => Ok(()),
+        Some(at) => Err(format!("number {} of {NUMBERS} in the library's report is {}, the Rust's {}", at + 1, said[at], wanted[at])),
     }
 }
 

@@ -5,6 +5,7 @@ pub mod rust;
 pub mod shrink;
 
 use lend::Lent;
+use oracle::savings::Savings;
 use rust::{Rust, Want, NO_MATCH};
 
 /// What is asked of both sides. Forms stand one after the other; `first` is the length of the first.
@@ -16,6 +17,8 @@ pub enum Work {
     MatchPlace { first: usize },
     Check,
     Write,
+    /// One form worked into a report, with what the report held before.
+    AddForm { before: Savings },
 }
 
 /// How much is lent.
@@ -32,7 +35,8 @@ impl Lengths {
 /// What both sides said.
 #[derive(Clone, Copy, PartialEq, Eq, Debug)]
 pub enum Said {
-    Answered { mark: bool },
+    /// Rules are for a form in a report: how often each ended a pass.
+    Answered { mark: bool, rules: [u64; 8] },
     /// A refusal, or 100 and 101 of the matcher.
     Number(u8),
     /// The Rust's work grew beyond the oracle's bounds; nothing was compared.
@@ -54,11 +58,7 @@ impl Both {
 
     /// Runs both sides and compares all; what differs, in words, is the error.
     pub fn compare(&mut self, work: Work, forms: &[u8], lengths: Lengths) -> Result<Said, String> {
-        let want = if lengths.room < umlazgrin::ROOM {
-            Want::Number(1)
-        } else {
-            self.rust.asked(work, forms, lengths.out)
-        };
+        let want = self.rust.asked(work, forms, lengths);
         if let Want::Broken(complaint) = want {
             return Err(format!("the Rust contradicts itself: {complaint}"));
         }
@@ -71,12 +71,23 @@ impl Both {
         self.lent.asked(work, forms, lengths);
         self.lent.same_as(&want, lengths)?;
         Ok(match want {
-            Want::Answer { report, .. } => Said::Answered { mark: work == Work::Optimise && report[3] == 1 },
+            Want::Answer { report, .. } => Said::Answered { mark: work == Work::Optimise && report[3] == 1, rules: [0; 8] },
+            Want::Added { number: 0, before, after } => answered_in(&before, &after),
+            Want::Added { number, .. } => Said::Number(number),
             Want::Number(number) => Said::Number(number),
             Want::NoMatch { .. } => Said::Number(NO_MATCH),
             Want::GaveUp | Want::Broken(_) => Said::GaveUp,
         })
     }
+}
+
+/// What an answered form made of a report.
+fn answered_in(before: &Savings, after: &Savings) -> Said {
+    let mut rules = after.rules;
+    for (count, was) in rules.iter_mut().zip(before.rules) {
+        *count -= was;
+    }
+    Said::Answered { mark: after.marked > before.marked, rules }
 }
 
 impl Default for Both {

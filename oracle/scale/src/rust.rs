@@ -9,8 +9,9 @@ use oracle::form::read;
 use oracle::matcher::{matches, published_agrees, Matched};
 use oracle::modes::full;
 use oracle::runner::evaluate;
+use oracle::savings::{Savings, FORMS, TOO_MANY};
 
-use crate::Work;
+use crate::{Lengths, Work};
 
 #[derive(PartialEq, Eq, Debug)]
 pub enum Want {
@@ -18,6 +19,8 @@ pub enum Want {
     Number(u8),
     /// No match, for a call that also says where.
     NoMatch { place: [u8; PLACE] },
+    /// A form worked into a report: 0 or its refusal, and the report as it was and as it is to be.
+    Added { number: u8, before: Savings, after: Savings },
     GaveUp,
     /// The text complained of itself, or the two matchers disagree.
     Broken(String),
@@ -38,7 +41,16 @@ impl Rust {
         Rust { store: oracle::store(false) }
     }
 
-    pub fn asked(&mut self, work: Work, forms: &[u8], most: usize) -> Want {
+    /// A report that takes no form and a room that is too short are settled before the form is looked at.
+    pub fn asked(&mut self, work: Work, forms: &[u8], lengths: Lengths) -> Want {
+        match work {
+            Work::AddForm { before } if !takes_a_form(&before) => Want::Added { number: TOO_MANY, before, after: before },
+            _ if lengths.room < umlazgrin::ROOM => without_room(work),
+            _ => self.worked(work, forms, lengths.out),
+        }
+    }
+
+    fn worked(&mut self, work: Work, forms: &[u8], most: usize) -> Want {
         let store = &mut self.store;
         let worked = catch_unwind(AssertUnwindSafe(|| match work {
             Work::Optimise => optimised(store, forms, most),
@@ -47,6 +59,7 @@ impl Rust {
             Work::MatchPlace { first } => matched(store, forms.split_at(first), most, no_match_at),
             Work::Check => checked(store, forms),
             Work::Write => written(store, forms, most),
+            Work::AddForm { before } => added(store, forms, before),
         }));
         match worked {
             Ok(Ok(want)) => want,
@@ -64,12 +77,33 @@ impl Default for Rust {
     }
 }
 
+/// It is not full, and no number is so large that a sum could pass 64 bits.
+fn takes_a_form(report: &Savings) -> bool {
+    report.forms() < FORMS && report.numbers().iter().all(|number| *number < 1 << 63)
+}
+
+/// Refusal 1, which stands in a report as any other. The oracle lends itself no room.
+fn without_room(work: Work) -> Want {
+    let Work::AddForm { before } = work else {
+        return Want::Number(1);
+    };
+    let mut after = before;
+    after.refused[0] += 1;
+    Want::Added { number: 1, before, after }
+}
+
 type Asked = Result<Want, EvalErr>;
 
 fn optimised(store: &mut Allocator, form: &[u8], most: usize) -> Asked {
     let a = full(store, form, most)?;
     let report = vec![a.tree.len(), a.passes as usize, a.units as usize, a.mark as usize];
     Ok(Want::Answer { bytes: a.tree, report })
+}
+
+fn added(store: &mut Allocator, form: &[u8], before: Savings) -> Asked {
+    let mut after = before;
+    let number = after.add(store, form)?;
+    Ok(Want::Added { number, before, after })
 }
 
 /// Two forms, on one budget.

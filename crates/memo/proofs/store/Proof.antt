@@ -8,6 +8,7 @@ pub store-spec : {M : Type 1} → statement M
 store-spec =
     tie.close
     (tie.spec
+    (λ c. search storing.behind-fits)  -- add-if1
     (λ c. search storing.row-full)  -- returns
     (λ c. search storing.no-pass)  -- returns-2
     (λ c. search storing.none-left)  -- returns-3

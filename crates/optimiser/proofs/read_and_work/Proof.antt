@@ -1,10 +1,5 @@
 -- read_and_work: an answer for each need; what carries weight stands in the laws.
-use Rattle.form.proofs.read_form.Reads as read-form-reads
 use Rattle.optimiser.proofs.Working as laws
-use Rattle.optimiser.proofs.finish.Reads as finish-reads
-use Rattle.driver.proofs.optimize_node.Reads as optimize-node-reads
-use Rattle.optimiser.proofs.read_and_work.Lts as lts
-use Rattle.optimiser.proofs.read_and_work.Reads as reads
 use Rattle.optimiser.proofs.read_and_work.Statement.{statement}
 use Rattle.optimiser.proofs.read_and_work.Tie as tie
 use borrow.Author.Needs.{needs}
@@ -16,7 +11,8 @@ read-and-work-spec =
     (λ c κs. search needs)  -- read-form-requires
     (λ c. search needs)  -- enum-known-e
     (λ c. search needs)  -- enum-known-n
-    (λ c κs. (search laws.read-ready, search laws.read-patterned))  -- optimize-node-requires
+    (λ c. search needs)  -- slice-aggregate-optimize-node
+    (λ c κs. (search laws.read-ready, search laws.read-patterned, search laws.row-known))  -- optimize-node-requires
     (λ c κs. search needs)  -- finish-requires
     (λ c. search needs)  -- same-length
     (λ c. search laws.read-refused)  -- returns

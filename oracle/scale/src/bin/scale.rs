@@ -8,6 +8,7 @@ use std::time::Instant;
 use generate::options::Options;
 use generate::random::Random;
 use generate::sink::Sink;
+use oracle::savings::{Savings, COLUMNS, FORMS, NUMBERS};
 use scale::lend::MOST_ROOM;
 use scale::shrink::shrink;
 use scale::{Both, Lengths, Said, Work};
@@ -19,15 +20,20 @@ struct Counts {
     marked: u64,
     gave_up: u64,
     numbers: BTreeMap<u8, u64>,
+    /// Passes that each rule ended, over the answered forms.
+    rules: [u64; 8],
 }
 
 impl Counts {
     fn count(&mut self, said: Said) {
         self.forms += 1;
         match said {
-            Said::Answered { mark } => {
+            Said::Answered { mark, rules } => {
                 self.answered += 1;
                 self.marked += mark as u64;
+                for (sum, count) in self.rules.iter_mut().zip(rules) {
+                    *sum += count;
+                }
             }
             Said::Number(number) => *self.numbers.entry(number).or_default() += 1,
             Said::GaveUp => self.gave_up += 1,
@@ -37,8 +43,10 @@ impl Counts {
     fn print(&self, what: &str) {
         if self.forms > 0 {
             let numbers: Vec<String> = self.numbers.iter().map(|(n, count)| format!("{n}:{count}")).collect();
+            let rules: Vec<String> = (1..).zip(self.rules).map(|(rule, count)| format!("{rule}:{count}")).collect();
+            let ended = if self.rules == [0; 8] { String::new() } else { format!(", passes ended by rules {}", rules.join(" ")) };
             println!(
-                "{what}: forms {}, answered {}, marked {}, refused {}, gave up {}, different 0",
+                "{what}: forms {}, answered {}, marked {}, refused {}{ended}, gave up {}, different 0",
                 self.forms, self.answered, self.marked, numbers.join(" "), self.gave_up
             );
         }
@@ -49,10 +57,11 @@ struct Scale {
     both: Both,
     /// Chooses what is lent; another seed lends otherwise.
     random: Random,
-    works: [Counts; 6],
+    works: [Counts; 8],
 }
 
-const NAMES: [&str; 6] = ["optimise", "evaluate", "match", "check", "write", "match with its place"];
+const NAMES: [&str; 8] =
+    ["optimise", "evaluate", "match", "check", "write", "match with its place", "savings", "savings, in a report with forms"];
 
 impl Scale {
     fn one(&mut self, work: Work, forms: &[u8], lengths: Lengths) {
@@ -63,6 +72,8 @@ impl Scale {
             Work::Check => 3,
             Work::Write => 4,
             Work::MatchPlace { .. } => 5,
+            Work::AddForm { before } if before == Savings::default() => 6,
+            Work::AddForm { .. } => 7,
         };
         match self.both.compare(work, forms, lengths) {
             Ok(said) => self.works[place].count(said),
@@ -82,6 +93,25 @@ impl Scale {
         }
     }
 
+    /// A report that other forms stand in: one that takes a form more, one that is full, or one with a number that is too large.
+    fn report(&mut self) -> Savings {
+        let random = &mut self.random;
+        let mut numbers = [0; NUMBERS];
+        let (columns, sums) = numbers.split_at_mut(COLUMNS);
+        columns.fill_with(|| random.below(FORMS as usize / COLUMNS) as u64);
+        // Of any size, but below 2^63.
+        sums.fill_with(|| random.next() >> random.between(1, 63));
+        let missing = FORMS - columns.iter().sum::<u64>();
+        match random.below(8) {
+            0 => columns[random.below(COLUMNS)] += missing,
+            1 => columns[random.below(COLUMNS)] += missing - 1,
+            2 => columns[random.below(COLUMNS)] = random.next() >> random.below(52),
+            3 | 4 => numbers[random.below(NUMBERS)] |= 1 << 63,
+            _ => {}
+        }
+        Savings::of(numbers)
+    }
+
     fn forms(&mut self, name: &str, forms: &[&[u8]]) {
         let lengths = self.lengths();
         if let [first, second] = forms {
@@ -93,9 +123,14 @@ impl Scale {
             return self.one(Work::MatchPlace { first }, &both, lengths);
         }
         self.one(Work::Optimise, forms[0], lengths);
+        self.one(Work::AddForm { before: Savings::default() }, forms[0], lengths);
         match self.random.below(8) {
             0 => self.one(Work::Check, forms[0], lengths),
             1 => self.one(Work::Write, forms[0], lengths),
+            2 => {
+                let before = self.report();
+                self.one(Work::AddForm { before }, forms[0], lengths);
+            }
             _ => {}
         }
     }

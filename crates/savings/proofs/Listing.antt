@@ -1,0 +1,103 @@
+-- The list: what is made of a form and of a line. Assumes nothing.
+use mathlib.Core.Path.{_≡_, refl, sym, _∙_, ap, subst}
+use mathlib.Core.List.{List}
+use mathlib.Core.Bool.{true, false}
+use Prim.Native.Nat.{ℕ}
+use native.Mathlib.Omega.{arith}
+use lib.ListN.{length, take}
+use Rattle.refusals.specs.declared.Refusal.{Refusal}
+use Rattle.meaning.specs.Outcome.{Outcome, answered, refused}
+use Rattle.meaning.specs.Run.{run}
+use Rattle.meaning.proofs.Tests.{on-bool}
+use Rattle.lines.specs.declared.read.Got.{Got}
+use Rattle.lines.specs.declared.read.Got.the-variants.{Form, Bad, End}
+use Rattle.lines.specs.declared.read.Lines.{Lines}
+use Rattle.lines.specs.Text.{Printed, no-line}
+use Rattle.lines.proofs.Printing.{nothing}
+use Rattle.totals.specs.declared.Savings.{Savings}
+use Rattle.totals.specs.declared.Column.{Column}
+use Rattle.totals.specs.declared.Column.the-variants.{Answered, Refused, Full}
+use Rattle.totals.specs.declared.Added.{Added}
+use Rattle.totals.specs.Savings.{output-most, is-open}
+use Rattle.totals.specs.Adding.{column-of, Takes, Leaves, Adds}
+use Rattle.savings.specs.declared.Listed.{Listed}
+use Rattle.savings.specs.Report.{report-text, last-text, form-text, form-after, Worked, line-text, line-after, line-over, Turned}
+
+-- ---- work_in
+
+-- a form that has a column was taken
+not-full : (o : Outcome) → column-of o ≡ Full → ⊥
+unfolding column-of
+not-full (answered bytes tag numbers) e = let z : _≡_ {A = ℕ} 0 1 = cc in absurd (omega arith)
+not-full (refused n) e = let z : _≡_ {A = ℕ} 0 1 = cc in absurd (omega arith)
+
+module _ (s : Savings) (form room room₁ : List ℕ) (a : Added) (h : Adds s form room room₁ a) where
+  taken : is-open s ≡ true → Takes s form room room₁ a
+  unfolding Adds
+  taken y = rw (y, Adds) at h
+
+  left : is-open s ≡ false → Leaves s room room₁ a
+  unfolding Adds
+  left y = rw (y, Adds) at h
+
+  full-shut : a .column ≡ Full → is-open s ≡ false
+  full-shut e = on-bool (is-open s) (λ y. absurd (not-full (run form (length room) output-most) (sym (taken y .column) ∙ e))) (λ y. y)
+
+  column-open : (a .column ≡ Full → ⊥) → is-open s ≡ true
+  column-open e = on-bool (is-open s) (λ y. y) (λ y. absurd (e (left y .column)))
+
+  module _ (l : Lines) where
+    pub worked-full : (c : Column) → c ≡ a .column → c ≡ Full → (text text′ : List ℕ) (at k : ℕ) → Printed (last-text (a .savings)) text text′ at k
+        → Worked s form room text text′ at (record { lines = record { at = l .at; len = l .len; put = k; first = l .first; n = l .n; got = l .got }; savings = a .savings; over = true })
+    unfolding form-after form-text
+    worked-full c ec e text text′ at k p =
+        let y = full-shut (sym ec ∙ e) in
+        record {
+          savings = rw (y, form-after) (left y .savings);
+          over = rw y refl;
+          printed = subst (λ (x : List ℕ). Printed x text text′ at k) (ap last-text (left y .savings) ∙ rw (y, form-text) refl) p;
+        }
+
+    open-worked : (a .column ≡ Full → ⊥) → (text : List ℕ) (at : ℕ)
+        → Worked s form room text text at (record { lines = record { at = l .at; len = l .len; put = at; first = l .first; n = l .n; got = l .got }; savings = a .savings; over = false })
+    unfolding form-after form-text
+    open-worked e text at =
+        let y = column-open e in
+        record {
+          savings = rw (y, form-after) (taken y .savings);
+          over = rw y refl;
+          printed = rw (y, form-text) (nothing text at);
+        }
+
+    pub worked-answered : (c : Column) → c ≡ a .column → c ≡ Answered → (text : List ℕ) (at : ℕ)
+        → Worked s form room text text at (record { lines = record { at = l .at; len = l .len; put = at; first = l .first; n = l .n; got = l .got }; savings = a .savings; over = false })
+    worked-answered c ec e text at = open-worked (λ z. let q : Answered ≡ Full = sym e ∙ ec ∙ z in let y : _≡_ {A = ℕ} 0 1 = cc in absurd (omega arith)) text at
+
+    pub worked-refused : (c : Column) → c ≡ a .column → (n : Refusal) → c ≡ Refused n → (text : List ℕ) (at : ℕ)
+        → Worked s form room text text at (record { lines = record { at = l .at; len = l .len; put = at; first = l .first; n = l .n; got = l .got }; savings = a .savings; over = false })
+    worked-refused c ec n e text at = open-worked (λ z. let q : Refused n ≡ Full = sym e ∙ ec ∙ z in let y : _≡_ {A = ℕ} 0 1 = cc in absurd (omega arith)) text at
+
+-- ---- turn
+
+pub turned-form : (s : Savings) (forms room text text′ : List ℕ) (r : Listed) (at n : ℕ) (g : Got) → Worked s (take n forms) room text text′ at r → r .lines .got ≡ g → r .lines .n ≡ n → g ≡ Form
+    → Turned s forms room text text′ r
+unfolding line-after line-over line-text
+turned-form s forms room text text′ r at n g w eg en ef =
+    let e : r .lines .got ≡ Form = eg ∙ ef in
+    record {
+      savings = rw (e, en) (w .savings);
+      over = rw e (w .over);
+      from = at;
+      printed = rw e (w .printed);
+    }
+
+module _ (s : Savings) (q : Lines) (forms room text text′ : List ℕ) where
+  pub turned-bad : (at k : ℕ) → Printed no-line text text′ at k → q .got ≡ Bad
+      → Turned s forms room text text′ (record { lines = record { at = q .at; len = q .len; put = k; first = q .first; n = q .n; got = q .got }; savings = s; over = false })
+  unfolding line-after line-over line-text
+  turned-bad at k p g = record { savings = rw g refl; over = rw g refl; from = at; printed = rw g p }
+
+  pub turned-end : (at k : ℕ) → Printed (report-text s) text text′ at k → q .got ≡ End
+      → Turned s forms room text text′ (record { lines = record { at = q .at; len = q .len; put = k; first = q .first; n = q .n; got = q .got }; savings = s; over = true })
+  unfolding line-after line-over line-text
+  turned-end at k p g = record { savings = rw g refl; over = rw g refl; from = at; printed = rw g p }

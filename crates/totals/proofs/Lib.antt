@@ -1,0 +1,5 @@
+pub mod Summing
+pub mod Adding
+pub mod Columns
+pub mod Placing
+pub mod Report

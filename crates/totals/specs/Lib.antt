@@ -1,0 +1,2 @@
+pub mod Savings
+pub mod Adding
