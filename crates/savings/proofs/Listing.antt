@@ -12,7 +12,9 @@ use Rattle.meaning.proofs.Tests.{on-bool}
 use Rattle.lines.specs.declared.read.Got.{Got}
 use Rattle.lines.specs.declared.read.Got.the-variants.{Form, Bad, End}
 use Rattle.lines.specs.declared.read.Lines.{Lines}
-use Rattle.lines.specs.Text.{Printed, no-line}
+use Rattle.lines.specs.Text.{Waits, Cleared, Printed, no-line}
+use Rattle.lines.specs.Line.{Came}
+use Rattle.lines.proofs.Waiting.{waits-on}
 use Rattle.lines.proofs.Printing.{nothing}
 use Rattle.totals.specs.declared.Savings.{Savings}
 use Rattle.totals.specs.declared.Column.{Column}
@@ -79,25 +81,28 @@ module _ (s : Savings) (form room room₁ : List ℕ) (a : Added) (h : Adds s fo
 
 -- ---- turn
 
-pub turned-form : (s : Savings) (forms room text text′ : List ℕ) (r : Listed) (at n : ℕ) (g : Got) → Worked s (take n forms) room text text′ at r → r .lines .got ≡ g → r .lines .n ≡ n → g ≡ Form
-    → Turned s forms room text text′ r
-unfolding line-after line-over line-text
-turned-form s forms room text text′ r at n g w eg en ef =
-    let e : r .lines .got ≡ Form = eg ∙ ef in
-    record {
-      savings = rw (e, en) (w .savings);
-      over = rw e (w .over);
-      from = at;
-      printed = rw e (w .printed);
-    }
+module _ (s : Savings) (l q : Lines) (forms room text text′ : List ℕ) (at : ℕ) (came : Came forms l q) (clear : Cleared text (q .put) at) where
+  waiting : Waits (l .put) at
+  waiting = waits-on (l .put) (q .put) at (came .waits) (clear .waits)
 
-module _ (s : Savings) (q : Lines) (forms room text text′ : List ℕ) where
-  pub turned-bad : (at k : ℕ) → Printed no-line text text′ at k → q .got ≡ Bad
-      → Turned s forms room text text′ (record { lines = record { at = q .at; len = q .len; put = k; first = q .first; n = q .n; got = q .got }; savings = s; over = false })
+  pub turned-form : (r : Listed) (n : ℕ) (g : Got) → Worked s (take n forms) room text text′ at r → r .lines .got ≡ g → r .lines .n ≡ n → g ≡ Form → Turned s (l .put) forms room text text′ r
   unfolding line-after line-over line-text
-  turned-bad at k p g = record { savings = rw g refl; over = rw g refl; from = at; printed = rw g p }
+  turned-form r n g w eg en ef =
+      let e : r .lines .got ≡ Form = eg ∙ ef in
+      record {
+        savings = rw (e, en) (w .savings);
+        over = rw e (w .over);
+        from = at;
+        waits = waiting;
+        printed = rw e (w .printed);
+      }
 
-  pub turned-end : (at k : ℕ) → Printed (report-text s) text text′ at k → q .got ≡ End
-      → Turned s forms room text text′ (record { lines = record { at = q .at; len = q .len; put = k; first = q .first; n = q .n; got = q .got }; savings = s; over = true })
+  pub turned-bad : (k : ℕ) → Printed no-line text text′ at k → q .got ≡ Bad
+      → Turned s (l .put) forms room text text′ (record { lines = record { at = q .at; len = q .len; put = k; first = q .first; n = q .n; got = q .got }; savings = s; over = false })
   unfolding line-after line-over line-text
-  turned-end at k p g = record { savings = rw g refl; over = rw g refl; from = at; printed = rw g p }
+  turned-bad k p g = record { savings = rw g refl; over = rw g refl; from = at; waits = waiting; printed = rw g p }
+
+  pub turned-end : (k : ℕ) → Printed (report-text s) text text′ at k → q .got ≡ End
+      → Turned s (l .put) forms room text text′ (record { lines = record { at = q .at; len = q .len; put = k; first = q .first; n = q .n; got = q .got }; savings = s; over = true })
+  unfolding line-after line-over line-text
+  turned-end k p g = record { savings = rw g refl; over = rw g refl; from = at; waits = waiting; printed = rw g p }

@@ -8,7 +8,7 @@ use Rattle.refusals.specs.declared.Refusal.the-variants.{ReportFull}
 use Rattle.refusals.specs.Numbers.{number-of}
 use Rattle.lines.specs.declared.read.Got.{Got}
 use Rattle.lines.specs.declared.read.Got.the-variants.{Form, Bad, End}
-use Rattle.lines.specs.Text.{Printed, numbers-line, no-number, no-line}
+use Rattle.lines.specs.Text.{Waits, Printed, numbers-line, no-number, no-line}
 use Rattle.totals.specs.declared.Savings.{Savings}
 use Rattle.totals.specs.Savings.{sum-from, fewer, with-form, is-open}
 use Rattle.savings.specs.declared.Listed.{Listed}
@@ -103,9 +103,10 @@ line-over Form s = not (is-open s)
 line-over Bad s = false
 line-over End s = true
 
--- the next line was taken: what it spells stands in forms
-pub record Turned (s : Savings) (forms room text text′ : List ℕ) (r : Listed) : Type 0 where
+-- the next line was taken: what it spells stands in forms. What waited, up to `put`, still waits or was written, and then this was printed
+pub record Turned (s : Savings) (put : ℕ) (forms room text text′ : List ℕ) (r : Listed) : Type 0 where
   pub savings : r .savings ≡ line-after (r .lines .got) (length room) s (take (r .lines .n) forms)
   pub over : r .over ≡ line-over (r .lines .got) s
   pub from : ℕ
+  pub waits : Waits put from
   pub printed : Printed (line-text (r .lines .got) s) text text′ from (r .lines .put)

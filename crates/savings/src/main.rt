@@ -126,7 +126,7 @@ fn work_in(form: &[u8], room: &mut [u8], text: &mut [u8], at: usize, t: Listed) 
 // Takes the next line.
 fn turn(buf: &mut [u8], forms: &mut [u8], room: &mut [u8], text: &mut [u8], t: Listed) -> Listed
     requires { ⌜ line-most ≤ length (now text) ⌝ }
-    ensures { λ r. ⌜ Turned (t .savings) (now (forms .exit)) (now (room .entry)) (now (text .entry)) (now (text .exit)) r ⌝ }
+    ensures { λ r. ⌜ Turned (t .savings) (t .lines .put) (now (forms .exit)) (now (room .entry)) (now (text .entry)) (now (text .exit)) r ⌝ }
 {
     let l = t.lines;
     let s = t.savings;

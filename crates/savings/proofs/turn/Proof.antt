@@ -22,7 +22,7 @@ turn-spec =
     (λ c. search needs)  -- same-length-2
     (λ c. search needs)  -- same-length-3
     (λ c. search needs)  -- same-length-4
-    (λ c. listing.turned-form _ _ _ _ _ _ _ _ _ (c .before .before .before .before .work-in .ensures .0) (c .before .before .before .before .work-in .ensures .1) (c .before .before .before .before .work-in .ensures .2) (search needs))  -- returns
+    (λ c. listing.turned-form _ _ _ _ _ _ _ _ (c .before .before .before .before .before .before .before .before .before .before .before .before .before .before .before .before .next-line .ensures) (c .before .before .before .before .before .before .before .before .before .before .room-for-line .ensures) _ _ _ (c .before .before .before .before .work-in .ensures .0) (c .before .before .before .before .work-in .ensures .1) (c .before .before .before .before .work-in .ensures .2) (search needs))  -- returns
     (λ c. search needs)  -- same-length-5
     (λ c. search needs)  -- same-length-6
     (λ c. search needs)  -- same-length-7
