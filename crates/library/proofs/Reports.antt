@@ -1,13 +1,11 @@
 -- From what a public function promises of its answer to what the library's function of the same work returns and reports. Assumes nothing.
 use mathlib.Core.Path.{_≡_, refl, sym, _∙_, ap}
 use mathlib.Core.List.{List, [], _∷_}
-use mathlib.Core.Bool.{Bool, true, false}
 use Prim.Native.Nat.{ℕ}
 use mir.Val.{boolByte}
 use Rattle.refusals.specs.declared.Refusal.{Refusal}
 use Rattle.refusals.specs.Numbers.{number-of}
 use Rattle.meaning.specs.Outcome.{Outcome, plain, no-match, too-many-names, Told, values, number, told, Settles}
-use Rattle.meaning.specs.Run.{mark-number}
 use Rattle.form.specs.declared.ReadAnswer.{ReadAnswer}
 use Rattle.form.specs.declared.ReadAnswer.the-variants.{Read, Refused as not-read}
 use Rattle.form.specs.declared.WriteAnswer.{WriteAnswer}
@@ -27,6 +25,7 @@ use Rattle.optimiser.specs.Optimised as optimiser
 use Rattle.texts.specs.declared.FaultAnswer.{FaultAnswer}
 use Rattle.texts.specs.declared.FaultAnswer.the-variants.{At, NoFault, Refused as no-fault-told}
 use Rattle.texts.specs.Faults.{fault-says}
+use Rattle.totals.proofs.Adding.{mark-byte}
 use Rattle.library.specs.Reports.{number-told, report-told, place-told, Reports, Places}
 
 -- whatever an answer tells, the number and the report follow from it
@@ -40,12 +39,6 @@ module _ {A : Type 0} (tells : A → Told) (o : Outcome) (s s₁ w w₁ q : List
   }
 
 -- ---- optimise, from a form or a text
-
--- a bool as a number is the mark's
-mark-byte : (b : Bool) → boolByte b ≡ mark-number b
-unfolding mark-number
-mark-byte true = refl
-mark-byte false = refl
 
 module _ (o : Outcome) (s s₁ w w₁ q : List ℕ) (a : Answer) (h : Settles optimiser.says o s s₁ w w₁ a) where
   pub optimise-refused : (e : Refusal) (n : ℕ) → a ≡ Refused e → n ≡ number-of e → Reports o s s₁ w w₁ q q n

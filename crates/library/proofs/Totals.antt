@@ -4,19 +4,18 @@ use mathlib.Core.List.{List, [], _∷_}
 use mathlib.Core.Bool.{true, false}
 use Prim.Native.Nat.{ℕ}
 use native.Mathlib.Omega.{arith}
-use lib.ListN.{length, getD}
+use lib.ListN.{getD}
 use Rattle.refusals.specs.declared.Refusal.{Refusal}
 use Rattle.refusals.specs.declared.Refusal.the-variants.{ReportFull}
 use Rattle.refusals.specs.Numbers.{number-of}
-use Rattle.meaning.specs.Outcome.{Outcome, answered, refused}
-use Rattle.meaning.specs.Run.{run}
-use Rattle.meaning.proofs.Tests.{on-bool}
+use Rattle.meaning.specs.Outcome.{answered, refused}
 use Rattle.totals.specs.declared.Savings.{Savings}
 use Rattle.totals.specs.declared.Column.{Column}
 use Rattle.totals.specs.declared.Column.the-variants.{Answered, Refused, Full}
 use Rattle.totals.specs.declared.Added.{Added}
-use Rattle.totals.specs.Savings.{output-most, is-open}
-use Rattle.totals.specs.Adding.{number-in, column-of, Takes, Leaves, Adds}
+use Rattle.totals.specs.Savings.{is-open}
+use Rattle.totals.specs.Adding.{number-in, Adds}
+use Rattle.totals.proofs.Report.{taken, left, full-shut, column-open}
 use Rattle.library.specs.Totals.{savings-in, numbers-of, report-after, column-in, outcome-in, Totals}
 
 pub savings-are : (q : List ℕ)
@@ -29,29 +28,15 @@ pub numbers-are : (s : Savings)
 unfolding numbers-of
 numbers-are s = refl
 
--- a form that has a column was taken
-not-full : (o : Outcome) → column-of o ≡ Full → ⊥
-unfolding column-of
-not-full (answered bytes tag numbers) e = let z : _≡_ {A = ℕ} 0 1 = cc in absurd (omega arith)
-not-full (refused n) e = let z : _≡_ {A = ℕ} 0 1 = cc in absurd (omega arith)
-
 module _ (form s s₁ q : List ℕ) (v : Savings) (ev : v ≡ savings-in q) (a : Added) (h : Adds v form s s₁ a) (c : Column) (ec : c ≡ a .column) where
   to : Adds (savings-in q) form s s₁ a
   to = rw (← ev) h
-
-  taken : is-open (savings-in q) ≡ true → Takes (savings-in q) form s s₁ a
-  unfolding Adds
-  taken y = rw (y, Adds) at to
-
-  left : is-open (savings-in q) ≡ false → Leaves (savings-in q) s s₁ a
-  unfolding Adds
-  left y = rw (y, Adds) at to
 
   -- taken: the report has it
   taken-so : is-open (savings-in q) ≡ true → (n : ℕ) → n ≡ number-in c → (q₁ : List ℕ) → q₁ ≡ numbers-of (a .savings) → Totals form s s₁ q q₁ n
   unfolding column-in report-after outcome-in
   taken-so y n en q₁ eq =
-      let t = taken y in
+      let t = taken (savings-in q) form s s₁ a to y in
       record {
         returns = en ∙ ap number-in (ec ∙ t .column) ∙ rw (y, column-in) refl;
         reports = eq ∙ ap numbers-of (t .savings) ∙ rw (y, report-after) refl;
@@ -59,7 +44,7 @@ module _ (form s s₁ q : List ℕ) (v : Savings) (ev : v ≡ savings-in q) (a :
       }
 
   open-with : (c ≡ Full → ⊥) → is-open (savings-in q) ≡ true
-  open-with e = on-bool (is-open (savings-in q)) (λ y. y) (λ y. absurd (e (ec ∙ left y .column)))
+  open-with e = column-open (savings-in q) form s s₁ a to (λ z. e (ec ∙ z))
 
   pub answered-told : c ≡ Answered → (q₁ : List ℕ) → q₁ ≡ numbers-of (a .savings) → Totals form s s₁ q q₁ 0
   unfolding number-in
@@ -73,11 +58,11 @@ module _ (form s s₁ q : List ℕ) (v : Savings) (ev : v ≡ savings-in q) (a :
   pub full-told : c ≡ Full → (n : ℕ) → n ≡ number-of ReportFull → Totals form s s₁ q q n
   unfolding column-in report-after outcome-in number-in
   full-told e n en =
-      let y : is-open (savings-in q) ≡ false = on-bool (is-open (savings-in q)) (λ y. absurd (not-full (run form (length s) output-most) (sym (taken y .column) ∙ sym ec ∙ e))) (λ y. y) in
+      let y : is-open (savings-in q) ≡ false = full-shut (savings-in q) form s s₁ a to (sym ec ∙ e) in
       record {
         returns = en ∙ rw (y, column-in) refl;
         reports = rw (y, report-after) refl;
-        room = left y .room ∙ rw (y, outcome-in) refl;
+        room = left (savings-in q) form s s₁ a to y .room ∙ rw (y, outcome-in) refl;
       }
 
 -- one outcome only: the number, the room and the report

@@ -25,6 +25,7 @@ savings-in q = record {
   rules = getD q 19 0 ∷ getD q 20 0 ∷ getD q 21 0 ∷ getD q 22 0 ∷ getD q 23 0 ∷ getD q 24 0 ∷ getD q 25 0 ∷ getD q 26 0 ∷ [];
 }
 
+-- and back
 unfoldable pub numbers-of : Savings → List ℕ
 numbers-of s =
     s .answered
@@ -37,11 +38,12 @@ unfoldable pub report-after : ℕ → List ℕ → List ℕ → List ℕ
 unfolding savings-in numbers-of is-open with-form
 report-after room-length q form = elim (is-open (savings-in q)) [ true ↦ numbers-of (with-form room-length (savings-in q) form) | false ↦ q ]
 
--- the form's outcome: 17 where the report takes none
+-- the form's column: none where the report takes none
 unfoldable pub column-in : ℕ → List ℕ → List ℕ → Column
 unfolding savings-in is-open column-of run
 column-in room-length q form = elim (is-open (savings-in q)) [ true ↦ column-of (run form room-length output-most) | false ↦ Full ]
 
+-- the form's outcome: 17 there
 unfoldable pub outcome-in : ℕ → List ℕ → List ℕ → Outcome
 unfolding savings-in is-open run
 outcome-in room-length q form = elim (is-open (savings-in q)) [ true ↦ run form room-length output-most | false ↦ refused ReportFull ]

@@ -4,11 +4,8 @@ use mathlib.Core.List.{List}
 use mathlib.Core.Bool.{true, false}
 use Prim.Native.Nat.{ℕ}
 use native.Mathlib.Omega.{arith}
-use lib.ListN.{length, take}
+use lib.ListN.{take}
 use Rattle.refusals.specs.declared.Refusal.{Refusal}
-use Rattle.meaning.specs.Outcome.{Outcome, answered, refused}
-use Rattle.meaning.specs.Run.{run}
-use Rattle.meaning.proofs.Tests.{on-bool}
 use Rattle.lines.specs.declared.read.Got.{Got}
 use Rattle.lines.specs.declared.read.Got.the-variants.{Form, Bad, End}
 use Rattle.lines.specs.declared.read.Lines.{Lines}
@@ -20,53 +17,33 @@ use Rattle.totals.specs.declared.Savings.{Savings}
 use Rattle.totals.specs.declared.Column.{Column}
 use Rattle.totals.specs.declared.Column.the-variants.{Answered, Refused, Full}
 use Rattle.totals.specs.declared.Added.{Added}
-use Rattle.totals.specs.Savings.{output-most, is-open}
-use Rattle.totals.specs.Adding.{column-of, Takes, Leaves, Adds}
+use Rattle.totals.specs.Adding.{Adds}
+use Rattle.totals.proofs.Report.{taken, left, full-shut, column-open}
 use Rattle.savings.specs.declared.Listed.{Listed}
 use Rattle.savings.specs.Report.{report-text, last-text, form-text, form-after, Worked, line-text, line-after, line-over, Turned}
 
 -- ---- work_in
 
--- a form that has a column was taken
-not-full : (o : Outcome) → column-of o ≡ Full → ⊥
-unfolding column-of
-not-full (answered bytes tag numbers) e = let z : _≡_ {A = ℕ} 0 1 = cc in absurd (omega arith)
-not-full (refused n) e = let z : _≡_ {A = ℕ} 0 1 = cc in absurd (omega arith)
-
 module _ (s : Savings) (form room room₁ : List ℕ) (a : Added) (h : Adds s form room room₁ a) where
-  taken : is-open s ≡ true → Takes s form room room₁ a
-  unfolding Adds
-  taken y = rw (y, Adds) at h
-
-  left : is-open s ≡ false → Leaves s room room₁ a
-  unfolding Adds
-  left y = rw (y, Adds) at h
-
-  full-shut : a .column ≡ Full → is-open s ≡ false
-  full-shut e = on-bool (is-open s) (λ y. absurd (not-full (run form (length room) output-most) (sym (taken y .column) ∙ e))) (λ y. y)
-
-  column-open : (a .column ≡ Full → ⊥) → is-open s ≡ true
-  column-open e = on-bool (is-open s) (λ y. y) (λ y. absurd (e (left y .column)))
-
   module _ (l : Lines) where
     pub worked-full : (c : Column) → c ≡ a .column → c ≡ Full → (text text′ : List ℕ) (at k : ℕ) → Printed (last-text (a .savings)) text text′ at k
         → Worked s form room text text′ at (record { lines = record { at = l .at; len = l .len; put = k; first = l .first; n = l .n; got = l .got }; savings = a .savings; over = true })
     unfolding form-after form-text
     worked-full c ec e text text′ at k p =
-        let y = full-shut (sym ec ∙ e) in
+        let y = full-shut s form room room₁ a h (sym ec ∙ e) in
         record {
-          savings = rw (y, form-after) (left y .savings);
+          savings = rw (y, form-after) (left s form room room₁ a h y .savings);
           over = rw y refl;
-          printed = subst (λ (x : List ℕ). Printed x text text′ at k) (ap last-text (left y .savings) ∙ rw (y, form-text) refl) p;
+          printed = subst (λ (x : List ℕ). Printed x text text′ at k) (ap last-text (left s form room room₁ a h y .savings) ∙ rw (y, form-text) refl) p;
         }
 
     open-worked : (a .column ≡ Full → ⊥) → (text : List ℕ) (at : ℕ)
         → Worked s form room text text at (record { lines = record { at = l .at; len = l .len; put = at; first = l .first; n = l .n; got = l .got }; savings = a .savings; over = false })
     unfolding form-after form-text
     open-worked e text at =
-        let y = column-open e in
+        let y = column-open s form room room₁ a h e in
         record {
-          savings = rw (y, form-after) (taken y .savings);
+          savings = rw (y, form-after) (taken s form room room₁ a h y .savings);
           over = rw y refl;
           printed = rw (y, form-text) (nothing text at);
         }

@@ -142,7 +142,7 @@ unfolding rules-with
 counts-are n c a1 a2 a3 a4 a5 a6 a7 a8 e1 e2 e3 e4 e5 e6 e7 e8 = rw (e1, e2, e3, e4, e5, e6, e7, e8) refl
 
 -- a bool as a number is the mark's
-mark-byte : (b : Bool) → boolByte b ≡ mark-number b
+pub mark-byte : (b : Bool) → boolByte b ≡ mark-number b
 unfolding mark-number
 mark-byte true = refl
 mark-byte false = refl

@@ -6,7 +6,7 @@ use Prim.Native.Nat.{ℕ, _<_, _≤_}
 use native.Mathlib.Omega.{arith}
 use lib.Dec.{leb}
 use lib.ListN.{length, replicate}
-use borrow.Author.Tests.{le-leb, lt-leb}
+use borrow.Author.Tests.{le-leb, lt-leb, not-true, not-false}
 use Rattle.refusals.specs.declared.Refusal.{Refusal}
 use Rattle.refusals.specs.declared.Refusal.the-variants.{RoomSmall, OutputShort}
 use Rattle.refusals.specs.Numbers.{number-of}
@@ -15,7 +15,7 @@ use Rattle.meaning.specs.Meter.{Log, count-of}
 use Rattle.meaning.specs.Form.{write}
 use Rattle.meaning.specs.Outcome.{Outcome, plain, answered, refused, deliver, deliver-tree, ended, in-room, zeroed, room-after}
 use Rattle.meaning.specs.Run.{mark-number, worked, ends-in, deliver-run, run}
-use Rattle.meaning.proofs.Tests.{on-bool, leb-yes, not-true, not-false}
+use Rattle.meaning.proofs.Tests.{on-bool, leb-yes}
 use Rattle.meaning.proofs.Lent.{zeroed-same}
 use Rattle.meaning.proofs.RunLaws.{run-zeros}
 use Rattle.meaning.proofs.LogRun.{work-within, work-refused}
@@ -131,22 +131,14 @@ module _ (f s : List ℕ) (x : Finished) (o : WorkedOk f s x) (r : Savings) wher
 
 -- ---- add_form
 
-not-open : (b : Bool) → not b ≡ true → b ≡ false
-not-open true h = not-false h
-not-open false h = refl
-
-open-yes : (b : Bool) → not b ≡ false → b ≡ true
-open-yes true h = refl
-open-yes false h = not-true h
-
 module _ (s : Savings) (form room : List ℕ) (b : Bool) (eb : b ≡ is-open s) where
   pub adds-none : not b ≡ true → (room′ : List ℕ) → room′ ≡ zeroed room → Adds s form room room′ (record { savings = s; column = Full })
   unfolding Adds room-after
-  adds-none nb room′ er = rw (← eb, not-open b nb, Adds) (record { savings = refl; column = refl; room = er })
+  adds-none nb room′ er = rw (← eb, not-true b nb, Adds) (record { savings = refl; column = refl; room = er })
 
   module _ (nb : not b ≡ false) where
     pub add-open : is-open s ≡ true
-    add-open = sym eb ∙ open-yes b nb
+    add-open = sym eb ∙ not-false b nb
 
     takes : (room′ : List ℕ) (a : Added) → Takes s form room room′ a → Adds s form room room′ a
     unfolding Adds

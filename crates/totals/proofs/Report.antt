@@ -1,9 +1,11 @@
 -- What `add_form` makes of a list of forms, one call after another: the definition's report, and one outcome only. Assumes nothing.
 use mathlib.Core.Path.{_≡_, sym, _∙_}
 use mathlib.Core.List.{List, [], _∷_, _++_}
+use mathlib.Core.Bool.{true, false}
 use Prim.Native.Nat.{ℕ, _+_, _<_, _≤_}
+use native.Mathlib.Omega.{arith}
 use lib.ListN.{length}
-use Rattle.meaning.specs.Outcome.{zeroed, room-after}
+use Rattle.meaning.specs.Outcome.{Outcome, answered, refused, zeroed, room-after}
 use Rattle.meaning.specs.Run.{run}
 use Rattle.meaning.proofs.Tests.{on-bool}
 use Rattle.totals.specs.declared.Savings.{Savings}
@@ -55,3 +57,26 @@ only-one s form room room₁ room₂ a b h k = on-bool (is-open s)
     let t : Leaves s room room₁ a = rw (y, Adds) at h in
     let u : Leaves s room room₂ b = rw (y, Adds) at k in
     (added-same a b (t .savings ∙ sym (u .savings)) (t .column ∙ sym (u .column)), t .room ∙ sym (u .room)))
+
+-- ---- what the column says: whoever gets an answer knows by it whether the form was taken
+
+-- a form's own outcome is never Full
+not-full : (o : Outcome) → column-of o ≡ Full → ⊥
+unfolding column-of
+not-full (answered bytes tag numbers) e = let z : _≡_ {A = ℕ} 0 1 = cc in absurd (omega arith)
+not-full (refused n) e = let z : _≡_ {A = ℕ} 0 1 = cc in absurd (omega arith)
+
+module _ (s : Savings) (form room room′ : List ℕ) (r : Added) (h : Adds s form room room′ r) where
+  pub taken : is-open s ≡ true → Takes s form room room′ r
+  unfolding Adds
+  taken y = rw (y, Adds) at h
+
+  pub left : is-open s ≡ false → Leaves s room room′ r
+  unfolding Adds
+  left y = rw (y, Adds) at h
+
+  pub full-shut : r .column ≡ Full → is-open s ≡ false
+  full-shut e = on-bool (is-open s) (λ y. absurd (not-full (run form (length room) output-most) (sym (taken y .column) ∙ e))) (λ y. y)
+
+  pub column-open : (r .column ≡ Full → ⊥) → is-open s ≡ true
+  column-open e = on-bool (is-open s) (λ y. y) (λ y. absurd (e (left y .column)))

@@ -7,8 +7,7 @@ use native.Mathlib.Omega.{arith}
 use native.Mathlib.Decide.{decLe}
 use lib.ListN.{length, getD, drop}
 use lib.Seq.{drop-cons, drop-length}
-use borrow.Author.Tests.{lt-ltb, le-ltb}
-use Rattle.meaning.proofs.Tests.{not-true, not-false}
+use borrow.Author.Tests.{lt-ltb, le-ltb, not-true, not-false}
 use Rattle.totals.specs.declared.Savings.{Savings}
 use Rattle.totals.specs.Savings.{form-most, sum-from, forms-of, fewer, small-all, is-open}
 
@@ -132,14 +131,6 @@ module _ (ns : List ℕ) (i : ℕ) (a : Smalls ns i) where
 
 -- ---- is_open
 
-not-yes : (b : Bool) → not b ≡ true → b ≡ false
-not-yes true h = not-false h
-not-yes false h = refl
-
-not-no : (b : Bool) → not b ≡ false → b ≡ true
-not-no true h = refl
-not-no false h = not-true h
-
 module _ (s : Savings) (n : ℕ) (e : n ≡ fewer (sum-from (s .answered) (s .refused))) where
   pub full-not : 4096 ≤ n → false ≡ is-open s
   unfolding is-open forms-of
@@ -159,8 +150,8 @@ module _ (s : Savings) (n : ℕ) (e : n ≡ fewer (sum-from (s .answered) (s .re
 
     pub sums-not : (b : Bool) → b ≡ small-all (s .marked ∷ s .before ∷ s .after ∷ s .passes ∷ []) → not b ≡ true → false ≡ is-open s
     unfolding is-open forms-of
-    sums-not b eb nb = rw (lt-ltb (sum-from (s .answered) (s .refused)) form-most below, ← eb, not-yes b nb)
+    sums-not b eb nb = rw (lt-ltb (sum-from (s .answered) (s .refused)) form-most below, ← eb, not-true b nb)
 
     pub sums-open : (b c : Bool) → b ≡ small-all (s .marked ∷ s .before ∷ s .after ∷ s .passes ∷ []) → not b ≡ false → c ≡ small-all (s .rules) → c ≡ is-open s
     unfolding is-open forms-of
-    sums-open b c eb nb ec = rw (lt-ltb (sum-from (s .answered) (s .refused)) form-most below, ← eb, not-no b nb, ← ec)
+    sums-open b c eb nb ec = rw (lt-ltb (sum-from (s .answered) (s .refused)) form-most below, ← eb, not-false b nb, ← ec)
