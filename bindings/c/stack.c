@@ -1,6 +1,6 @@
 /* The stack that one call takes, measured: each line of standard input is a form in hex, or, with a bracket in front, a text; after the
  * last the program prints, for each function, the most bytes of stack that a call took, and the line on which it did. The functions that
- * take a text or a trace are given the form's own. (The thread's own first frames, some hundred bytes, are counted in.) */
+ * take a text are given the form's own. (The thread's own first frames, some hundred bytes, are counted in.) */
 #define _GNU_SOURCE
 #include "umlazgrin.h"
 #include <pthread.h>
@@ -11,11 +11,11 @@
 
 /* A word of the stack that nothing has touched. */
 #define CLEAN 0xa5a5a5a5a5a5a5a5u
-enum { STACK = 8 << 20, WORDS = STACK / 8, FORMS = 10, FUNCTIONS = 14 };
-static uint8_t form[UMLAZGRIN_FORM], both[2 * UMLAZGRIN_FORM], text[UMLAZGRIN_TEXT + 2], traced[UMLAZGRIN_TRACE];
+enum { STACK = 8 << 20, WORDS = STACK / 8, FORMS = 8, FUNCTIONS = 12 };
+static uint8_t form[UMLAZGRIN_FORM], both[2 * UMLAZGRIN_FORM], text[UMLAZGRIN_TEXT + 2];
 static uint8_t room[UMLAZGRIN_ROOM], out[UMLAZGRIN_OUTPUT];
 static uint64_t *stack;
-static size_t length, text_length, traced_length;
+static size_t length, text_length;
 
 static void *optimise(void *none) {
     struct umlazgrin_optimised r;
@@ -76,17 +76,6 @@ static void *add_form(void *none) {
     return none;
 }
 
-static void *trace(void *none) {
-    struct umlazgrin_optimised r;
-    umlazgrin_trace(form, length, room, sizeof room, traced, sizeof traced, &r);
-    return none;
-}
-static void *replay(void *none) {
-    struct umlazgrin_replayed r;
-    umlazgrin_replay(traced, traced_length, room, sizeof room, &r);
-    return none;
-}
-
 static void *write_text(void *none) {
     struct umlazgrin_written r;
     umlazgrin_write_text(form, length, room, sizeof room, out, sizeof out, &r);
@@ -130,21 +119,7 @@ static size_t taken(void *(*work)(void *)) {
     return STACK - 8 * low;
 }
 
-/* The form's trace. Where it is refused, one without entries, so that a replay works until it is refused too, or parts. */
-static void take_trace(void) {
-    struct umlazgrin_optimised r;
-    const uint8_t start[] = {'C', 'L', 'T', 0, 1, (uint8_t)(length >> 8), (uint8_t)length};
-    if (umlazgrin_trace(form, length, room, sizeof room, traced, sizeof traced, &r) == UMLAZGRIN_ANSWERED) {
-        traced_length = r.length;
-        return;
-    }
-    traced_length = sizeof start + length + 9;
-    memcpy(traced, start, sizeof start);
-    memcpy(traced + sizeof start, form, length);
-    memset(traced + sizeof start + length, 0, 9);
-}
-
-/* Takes the line as a text, or as a form with its trace and its text (none where the form is refused); returns the first function to try. */
+/* Takes the line as a text, or as a form with its text (none where the form is refused); returns the first function to try. */
 static int take(const char *line) {
     struct umlazgrin_written r;
     length = strcspn(line, "\n");
@@ -159,16 +134,15 @@ static int take(const char *line) {
         char two[3] = {line[2 * i], line[2 * i + 1], 0};
         form[i] = (uint8_t)strtoul(two, NULL, 16);
     }
-    take_trace();
     text_length = umlazgrin_write_text(form, length, room, sizeof room, text, UMLAZGRIN_TEXT, &r) ? 0 : r.length;
     return 0;
 }
 
 int main(void) {
-    const char *names[FUNCTIONS] = {"optimise", "evaluate", "match",      "match_place", "check",         "write",         "add_form",
-                                    "trace",    "replay",   "write_text", "read_text",   "optimise_text", "evaluate_text", "text_fault"};
-    void *(*works[FUNCTIONS])(void *) = {optimise, evaluate, match,      match_place, check,         write_again,   add_form,
-                                         trace,    replay,   write_text, read_text,   optimise_text, evaluate_text, text_fault};
+    const char *names[FUNCTIONS] = {"optimise", "evaluate",   "match",     "match_place",   "check",         "write",
+                                    "add_form", "write_text", "read_text", "optimise_text", "evaluate_text", "text_fault"};
+    void *(*works[FUNCTIONS])(void *) = {optimise, evaluate,   match,     match_place,   check,         write_again,
+                                         add_form, write_text, read_text, optimise_text, evaluate_text, text_fault};
     size_t most[FUNCTIONS] = {0}, at[FUNCTIONS] = {0}, number = 0;
     static char line[UMLAZGRIN_TEXT + 64];
     stack = mmap(NULL, STACK, PROT_READ | PROT_WRITE, MAP_PRIVATE | MAP_ANONYMOUS, -1, 0);

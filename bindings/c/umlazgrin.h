@@ -2,28 +2,27 @@
  * serialised form and of the readable notation, on bytes that the caller lends. Link libumlazgrin.a; of C's library it needs memcpy
  * and memset only.
  *
- * Each of the fourteen functions returns 0 for an answer, or the number of a refusal (1 to 20; the matcher also 100 and 101). What it leaves
+ * Each of the twelve functions returns 0 for an answer, or the number of a refusal (1 to 17; the matcher also 100 and 101). What it leaves
  * behind is proved of it, for all inputs:
  *   - an answer fills in *report and writes the first bytes of out, as many as the report says, and none after them (umlazgrin_check,
- *     umlazgrin_text_fault, umlazgrin_add_form and umlazgrin_replay have no out: they write the report and the room alone);
+ *     umlazgrin_text_fault and umlazgrin_add_form have no out: they write the report and the room alone);
  *   - any other return leaves out and *report as they came in; but umlazgrin_add_form, whose report is one over many forms, counts a form
  *     that is refused with 1 to 14 in it, and leaves it as it came in where it returns 17 alone;
  *   - umlazgrin_match_place fills in *place where it returns 100; every other return leaves *place as it came in;
  *   - room is all zero after every return but refusal 1, which leaves it as it came in. What it holds before does not matter.
  *
  * Checked here: every length. A room that is short is refusal 1, a result that does not fit refusal 14, a form that is too long,
- * cut off or damaged 2 to 6, a text that is too long 16, one that does not parse 15 (umlazgrin_text_fault answers where), a trace that is
- * too long 20, none at all 18, cut off or with bytes left over 19. Any bytes may be passed as a form, as a text or as a trace.
+ * cut off or damaged 2 to 6, a text that is too long 16, one that does not parse 15 (umlazgrin_text_fault answers where). Any bytes may be
+ * passed as a form or as a text.
  *
  * A form that is read may spell its lengths with spare bytes, as older exporters do: 81 05 and c0 01 05 are the atom 5, as 05 is, and
  * c0 00 is nil. The tree, its units and every answer are those of the shortest form. A form that is written is always the shortest.
  *
  * The caller's duty, which nothing checks:
- *   - a pointer has as many bytes behind it as its length says, readable (form, forms, text, texts, trace) or readable and writable (room,
- *     out); with length 0 it is never followed and may be null;
+ *   - a pointer has as many bytes behind it as its length says, readable (form, forms, text, texts) or readable and writable (room, out);
+ *     with length 0 it is never followed and may be null;
  *   - report points to a whole report, aligned as its type is, and place to 64 bytes; neither is ever null;
- *   - room, out, *report and *place do not overlap each other, and none overlaps the form, text or trace; no other thread uses them during
- *     the call;
+ *   - room, out, *report and *place do not overlap each other, and none overlaps the form or text; no other thread uses them during the call;
  *   - the calling thread has 2 MiB of stack left (README.md says what was measured).
  * There is no state between calls but in the report that umlazgrin_add_form is given again, nothing is allocated, and threads may call at
  * once with room, and such a report, of their own. */
@@ -48,8 +47,6 @@ extern "C" {
 /* Bytes of output that the programs lend, also for text. A finished tree or a value can be longer: its parts may be shared, and are
  * written out. */
 #define UMLAZGRIN_OUTPUT 32768
-/* Bytes in a trace, at most: with so much output umlazgrin_trace never refuses with 14. */
-#define UMLAZGRIN_TRACE 65536
 
 enum umlazgrin_number {
     UMLAZGRIN_ANSWERED = 0,
@@ -70,15 +67,11 @@ enum umlazgrin_number {
     UMLAZGRIN_NO_PARSE = 15,        /* text that does not parse; the empty text too */
     UMLAZGRIN_TEXT_LONG = 16,       /* text over 32,768 bytes */
     UMLAZGRIN_REPORT_FULL = 17,     /* a 4,097th form of a report */
-    UMLAZGRIN_NOT_A_TRACE = 18,     /* not a trace: mark or version wrong or incomplete; the empty trace too */
-    UMLAZGRIN_TRACE_CUT = 19,       /* trace that is cut, or has bytes left over */
-    UMLAZGRIN_TRACE_LONG = 20,      /* trace over 65,536 bytes */
     UMLAZGRIN_NO_MATCH = 100,       /* the matcher only: no refusal, the expression is not of the pattern's shape */
     UMLAZGRIN_TOO_MANY_NAMES = 101  /* the matcher only: no refusal, the pattern asks for a third name */
 };
 
-/* What optimising took. mark is 1 where the finished tree is not promised to mean what the form meant, otherwise 0. length is of what was
- * written: the finished tree, its text, or the trace. */
+/* What optimising took. mark is 1 where the finished tree is not promised to mean what the form meant, otherwise 0. */
 struct umlazgrin_optimised { size_t length, passes, units, mark; };
 /* The value's length in bytes, and what evaluating took. */
 struct umlazgrin_evaluated { size_t length, steps, units; };
@@ -98,8 +91,6 @@ struct umlazgrin_fault { size_t found, place; };
  * answered forms alone: how many are marked; their bytes as they were passed, and those of their finished trees; the greatest number of
  * passes; and how often each of the eight rules ended a pass, at any nesting, thrown-away work included. */
 struct umlazgrin_savings { uint64_t answered, refused[14], marked, before, after, passes, rules[8]; };
-/* 0 where a trace and the work agree, else the number, from 1, of the entry at which they first part. */
-struct umlazgrin_replayed { size_t parts; };
 
 /* Optimises the form's tree and writes the finished tree to out. */
 uint8_t umlazgrin_optimise(const uint8_t *form, size_t form_length, uint8_t *room, size_t room_length,
@@ -134,26 +125,6 @@ uint8_t umlazgrin_write(const uint8_t *form, size_t form_length, uint8_t *room, 
  * started as zero. */
 uint8_t umlazgrin_add_form(const uint8_t *form, size_t form_length, uint8_t *room, size_t room_length,
                            struct umlazgrin_savings *report);
-
-/* A trace is the record of a run, so that a reviewer sees how a tree came about:
- *   43 4c 54 ("CLT"), 00 01 (the version), the form's length in two bytes, the form as it was passed;
- *   an entry for each change, at any nesting: the rule's number in one byte, 1 to 8, the length of the new expression in two bytes, the new
- *   expression as the shortest form;
- *   00, the passes in four bytes, the units in four bytes. All numbers have their highest byte first.
- * Entries stand in the order in which the driver without a memo ends its passes; work that is thrown away later is among them. */
-
-/* Works the form, as umlazgrin_optimise does, and writes the trace of that to out. It refuses with 1 to 13 as that function does; then with
- * 20 where the whole trace would have over UMLAZGRIN_TRACE bytes, then with 14 where out is shorter than the trace. The finished tree need
- * not fit anywhere: a form that umlazgrin_optimise refuses with 14 may have a trace. */
-uint8_t umlazgrin_trace(const uint8_t *form, size_t form_length, uint8_t *room, size_t room_length,
-                        uint8_t *out, size_t out_length, struct umlazgrin_optimised *report);
-
-/* Reads the trace, works its form again and compares the trace's entries with those of the work, byte for byte, the counts as one last
- * entry. It answers where the two first part, or that they agree, as a trace of umlazgrin_trace does. It refuses with 1, then 20, 18 and 19,
- * then 2 to 7 as the form inside is read, then 7 to 13 where the work is refused before the two part. What an entry says need not be
- * a rule or an expression. */
-uint8_t umlazgrin_replay(const uint8_t *trace, size_t trace_length, uint8_t *room, size_t room_length,
-                         struct umlazgrin_replayed *report);
 
 /* The five functions of the readable notation. A text is bytes and a length, in and out: no zero byte ends it. Refusals of a text come
  * in this order: 1, 16, 15, 2, then 5 and 7 as in the form of its tree; then those of the work, and 14 last. Of two texts the first is

@@ -2,12 +2,12 @@
 //!
 //! Every refusal leaves `out` as it came in. An answer writes the first bytes of `out`, as many as it says, and none after
 //! them. `room` is all zero after every return but [`Refusal::RoomSmall`], which leaves it as it came in. A text is any bytes.
-//! [`add_form`] has no `out`: it adds to a report that the caller keeps. [`check`], [`text_fault`] and [`replay`] have none either.
+//! [`add_form`] has no `out`: it adds to a report that the caller keeps.
 
 use crate::raw;
 use crate::refusal::Refusal;
 
-/// What optimising took: the finished tree, or of [`trace`] the trace, is the first `length` bytes of the output.
+/// What optimising took: the finished tree is the first `length` bytes of the output.
 #[derive(Clone, Copy, Debug, PartialEq, Eq)]
 pub struct Optimised {
     pub length: usize,
@@ -117,21 +117,6 @@ impl Added {
     }
 }
 
-/// What a replay of a trace says.
-#[derive(Clone, Copy, Debug, PartialEq, Eq)]
-pub enum Replayed {
-    /// The trace is what the work gives, byte for byte.
-    Agrees,
-    /// The number, from 1, of the entry at which the two first part; the counts stand as one last entry.
-    Parts(usize),
-}
-
-impl Replayed {
-    pub fn agrees(self) -> bool {
-        self == Replayed::Agrees
-    }
-}
-
 /// 0 is an answer; the library returns no other number than those of the enum.
 fn refused(number: u8) -> Result<(), Refusal> {
     match number {
@@ -220,36 +205,6 @@ pub fn add_form(form: &[u8], room: &mut [u8], report: &mut Savings) -> Added {
         Err(Refusal::ReportFull) => Added::Full,
         Err(refusal) => Added::Refused(refusal),
     }
-}
-
-/// Works the form, as [`optimise`] does, and writes the trace of that to the front of `out`. [`Refusal::TraceLong`] is for a trace of over
-/// [`crate::TRACE`] bytes, after the refusals of the work; [`Refusal::OutputShort`] for an output that is shorter than the trace. The
-/// finished tree need not fit anywhere.
-pub fn trace(form: &[u8], room: &mut [u8], out: &mut [u8]) -> Result<Optimised, Refusal> {
-    let mut report = [0; 4];
-    let number = unsafe {
-        raw::umlazgrin_trace(
-            form.as_ptr(), form.len(), room.as_mut_ptr(), room.len(), out.as_mut_ptr(), out.len(), &mut report,
-        )
-    };
-    refused(number)?;
-    let [length, passes, units, mark] = report;
-    Ok(Optimised { length, passes, units, mark: mark == 1 })
-}
-
-/// Reads the trace, works its form again, and says at which entry the two first part. The refusals are, after [`Refusal::RoomSmall`],
-/// [`Refusal::TraceLong`], [`Refusal::NotATrace`] and [`Refusal::TraceCut`], then those of the form inside, then those of the work, where it
-/// is refused before the two part.
-pub fn replay(trace: &[u8], room: &mut [u8]) -> Result<Replayed, Refusal> {
-    let mut report = [0; 1];
-    let number = unsafe {
-        raw::umlazgrin_replay(trace.as_ptr(), trace.len(), room.as_mut_ptr(), room.len(), &mut report)
-    };
-    refused(number)?;
-    Ok(match report[0] {
-        0 => Replayed::Agrees,
-        entry => Replayed::Parts(entry),
-    })
 }
 
 // ---- the notation

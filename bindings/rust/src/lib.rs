@@ -17,8 +17,6 @@
 //! assert_eq!(u.optimise_text("(f (c 3 2))")?.text, "0x03");
 //! assert_eq!(u.optimise_text("(f (c 3 2)").unwrap_err().number(), 15);
 //! assert_eq!(u.text_fault("(f (c 3 2)")?, Some(10)); // at its end: a bracket is wanted
-//! let trace = u.trace(&[0xff, 0x05, 0xff, 0x01, 0x80])?; // how (f 1) becomes 2
-//! assert!(u.replay(&trace.bytes)?.agrees());
 //! # Ok::<(), umlazgrin::Refusal>(())
 //! ```
 
@@ -26,7 +24,7 @@ pub mod lent;
 pub mod raw;
 mod refusal;
 
-pub use lent::{Added, Place, Replayed, Savings};
+pub use lent::{Added, Place, Savings};
 pub use refusal::Refusal;
 
 /// Bytes of working room that every function needs, at least.
@@ -39,26 +37,12 @@ pub const FORMS: usize = 4_096;
 pub const TEXT: usize = 32_768;
 /// Bytes of output, where the caller does not choose otherwise.
 pub const OUTPUT: usize = 32_768;
-/// Bytes in a trace, at most.
-pub const TRACE: usize = 65_536;
 
 /// A finished tree and what the run took. Where `mark` is false, the tree gives every value that the form gives, in every
 /// environment.
 #[derive(Clone, Debug, PartialEq, Eq)]
 pub struct Answer {
     pub tree: Vec<u8>,
-    pub passes: usize,
-    pub units: usize,
-    pub mark: bool,
-}
-
-/// The record of a run, and what the run took; `mark` is as in [`Answer`]. The bytes are `CLT`, the version 1 and the form's length in two
-/// bytes each, and the form as it was passed; then for each change, at any nesting, the rule's number in one byte, the length of the new
-/// expression in two, and the new expression; last a zero byte, passes and units in four bytes each. All numbers have their highest byte
-/// first. Entries stand in the order in which the driver without a memo ends its passes, thrown-away work included.
-#[derive(Clone, Debug, PartialEq, Eq)]
-pub struct Trace {
-    pub bytes: Vec<u8>,
     pub passes: usize,
     pub units: usize,
     pub mark: bool,
@@ -146,35 +130,6 @@ impl Umlazgrin {
     /// ```
     pub fn add_form(&mut self, form: &[u8], report: &mut Savings) -> Added {
         lent::add_form(form, &mut self.room, report)
-    }
-
-    /// Works the form, as [`Umlazgrin::optimise`] does, and keeps the record of that. It is written to [`TRACE`] bytes of its own, whatever
-    /// output this has, so that it is never [`Refusal::OutputShort`]; a longer one is [`Refusal::TraceLong`]. A form whose finished tree
-    /// does not fit the output may have a trace.
-    ///
-    /// ```
-    /// use umlazgrin::{Replayed, Umlazgrin};
-    /// let mut u = Umlazgrin::new();
-    /// let mut trace = u.trace(&[0xff, 0x05, 0xff, 0x01, 0x80])?.bytes; // (f 1)
-    /// assert_eq!(trace[..12], *b"CLT\0\x01\0\x05\xff\x05\xff\x01\x80");
-    /// assert_eq!(trace[12..16], [6, 0, 1, 2]); // the path rule, 6, made the one byte 2
-    /// assert_eq!(trace[16..], [0, 0, 0, 0, 1, 0, 0, 0, 31]); // passes and units
-    /// assert_eq!(u.replay(&trace)?, Replayed::Agrees);
-    /// trace[15] = 3;
-    /// assert_eq!(u.replay(&trace)?, Replayed::Parts(1));
-    /// # Ok::<(), umlazgrin::Refusal>(())
-    /// ```
-    pub fn trace(&mut self, form: &[u8]) -> Result<Trace, Refusal> {
-        let mut bytes = vec![0; TRACE];
-        let r = lent::trace(form, &mut self.room, &mut bytes)?;
-        bytes.truncate(r.length);
-        Ok(Trace { bytes, passes: r.passes, units: r.units, mark: r.mark })
-    }
-
-    /// Reads a trace, works its form again, and says at which entry the two first part, byte for byte, or that they agree. A trace of
-    /// [`Umlazgrin::trace`] agrees.
-    pub fn replay(&mut self, trace: &[u8]) -> Result<Replayed, Refusal> {
-        lent::replay(trace, &mut self.room)
     }
 
     pub fn evaluate(&mut self, program: &[u8], environment: &[u8]) -> Result<Value, Refusal> {

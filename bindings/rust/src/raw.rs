@@ -30,13 +30,6 @@ extern "C" {
     pub fn umlazgrin_add_form(
         form: *const u8, form_length: usize, room: *mut u8, room_length: usize, report: *mut Savings,
     ) -> u8;
-    pub fn umlazgrin_trace(
-        form: *const u8, form_length: usize, room: *mut u8, room_length: usize, out: *mut u8, out_length: usize,
-        report: *mut [usize; 4],
-    ) -> u8;
-    pub fn umlazgrin_replay(
-        trace: *const u8, trace_length: usize, room: *mut u8, room_length: usize, report: *mut [usize; 1],
-    ) -> u8;
     pub fn umlazgrin_read_text(
         text: *const u8, text_length: usize, room: *mut u8, room_length: usize, out: *mut u8, out_length: usize,
         report: *mut [usize; 2],

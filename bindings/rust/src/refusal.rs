@@ -1,10 +1,9 @@
-//! The twenty refusals, each with its number.
+//! The seventeen refusals, each with its number.
 
 use std::error::Error;
 use std::fmt;
 
-/// Why a form, a text or a trace was not answered, or a form not added to a report. The numbers are part of what is promised:
-/// `Refusal::Fails as u8` is 8.
+/// Why a form or a text was not answered, or not added to a report. The numbers are part of what is promised: `Refusal::Fails as u8` is 8.
 #[derive(Clone, Copy, Debug, PartialEq, Eq, PartialOrd, Ord, Hash)]
 #[repr(u8)]
 pub enum Refusal {
@@ -25,18 +24,15 @@ pub enum Refusal {
     NoParse = 15,
     TextLong = 16,
     ReportFull = 17,
-    NotATrace = 18,
-    TraceCut = 19,
-    TraceLong = 20,
 }
 
 use Refusal::*;
 
 impl Refusal {
     /// All of them, in the order of their numbers.
-    pub const ALL: [Refusal; 20] = [
+    pub const ALL: [Refusal; 17] = [
         RoomSmall, FormLong, EndsEarly, BadPrefix, AtomLong, BytesAfter, UnitsOut, Fails, NoOperator, StepsOut, PathLong,
-        PassesOut, TooDeep, OutputShort, NoParse, TextLong, ReportFull, NotATrace, TraceCut, TraceLong,
+        PassesOut, TooDeep, OutputShort, NoParse, TextLong, ReportFull,
     ];
 
     pub fn number(self) -> u8 {
@@ -66,9 +62,6 @@ impl Refusal {
             NoParse => "text that does not parse",
             TextLong => "text over 32,768 bytes",
             ReportFull => "a 4,097th form of a report",
-            NotATrace => "not a trace: mark or version wrong or incomplete",
-            TraceCut => "a trace that is cut or has bytes left over",
-            TraceLong => "a trace over 65,536 bytes",
         }
     }
 }

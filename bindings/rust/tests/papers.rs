@@ -177,8 +177,7 @@ fn numbers() {
         assert_eq!(usize::from(refusal.number()), i + 1);
         assert_eq!(Refusal::from_number(refusal.number()), Some(*refusal));
     }
-    assert_eq!((Refusal::from_number(0), Refusal::from_number(21)), (None, None));
+    assert_eq!((Refusal::from_number(0), Refusal::from_number(18)), (None, None));
     assert_eq!(Refusal::Fails.to_string(), "refusal 8: evaluation fails");
     assert_eq!((Refusal::NoParse.number(), Refusal::TextLong.number(), Refusal::ReportFull.number()), (15, 16, 17));
-    assert_eq!((Refusal::NotATrace.number(), Refusal::TraceCut.number(), Refusal::TraceLong.number()), (18, 19, 20));
 }

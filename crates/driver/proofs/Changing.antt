@@ -29,8 +29,8 @@ use Rattle.rules.specs.declared.Applied.TheVariants.{Call, Other}
 use Rattle.run_state.specs.declared.Outcome.TheVariants.{Same, Stopped}
 use Rattle.run_state.specs.declared.Work.{Work}
 use Rattle.run_state.specs.declared.Notes.{Notes}
-use Rattle.noting.specs.Notes.{Noted}
-use Rattle.noting.proofs.Noting.{noted_empty, noted_as}
+use Rattle.run_state.specs.Notes.{Noted}
+use Rattle.run_state.proofs.Noting.{noted_empty, noted_as}
 use Rattle.run_state.specs.Work.{spent_of, with_last, Did}
 use Rattle.rules.specs.Rule.{applied_at, AppliedIn, AppliedOk}
 use Rattle.run_state.proofs.Does.{did_same, did_stopped}
@@ -54,11 +54,11 @@ module _ (f : List ℕ) (p : Patterns) (room : List ℕ) (w : Work) (n : ℕ) (h
       let z : not_applied ≡ applied_of x = rw e at ok.answer in
       did_same f room r₀ w q _ _ eq ok.grown (rw (← z, var_change_optimizer_cons_eval_over))
 
-  pub change_none_noted : (nest : ℕ) (notes : Notes) (row : List (List ℕ)) (area : List ℕ) → a ≡ Other → Noted notes f row row area area (rule_ends (height_at (nest + 1)) 4 (tree_at f room n) (spent_of w))
+  pub change_none_noted : (nest : ℕ) (notes : Notes) (row : List (List ℕ)) → a ≡ Other → Noted notes row row (rule_ends (height_at (nest + 1)) 4 (tree_at f room n) (spent_of w))
   unfolding applied_at
-  change_none_noted nest notes row area e =
+  change_none_noted nest notes row e =
       let z : not_applied ≡ applied_of x = rw e at ok.answer in
-      noted_empty notes f row area _ (log.not_applied_ends (height_at (nest + 1)) x (sym z) (spent_of w))
+      noted_empty notes row _ (log.not_applied_ends (height_at (nest + 1)) x (sym z) (spent_of w))
 
   module _ (b s : ℕ) (e : a ≡ Call b s) where
     abbrev y : Tree
@@ -92,11 +92,11 @@ module _ (f : List ℕ) (p : Patterns) (room : List ℕ) (w : Work) (n : ℕ) (h
           ∙ seq_stop (charge (sub_cost y z)) (settle (again nest) x (sub_args y z) (reads_low y)) (spent_of w) _ UnitsOut (charge_fails (sub_cost y z) (spent_of w) o.over)
           ∙ ap (λ (t : Refusal). stop t (record { units = unit_limit; passes = w.passes; mark = w.mark })) (sym o.refusal))
 
-      pub change_over_noted : (nest : ℕ) (r : Refusal) (notes : Notes) (row : List (List ℕ)) (area : List ℕ) → u ≡ Refused r → Noted notes f row row area area (rule_ends (height_at (nest + 1)) 4 (tree_at f room n) (spent_of w))
+      pub change_over_noted : (nest : ℕ) (r : Refusal) (notes : Notes) (row : List (List ℕ)) → u ≡ Refused r → Noted notes row row (rule_ends (height_at (nest + 1)) 4 (tree_at f room n) (spent_of w))
       unfolding SubOk
-      change_over_noted nest r notes row area eu =
+      change_over_noted nest r notes row eu =
           let o : Over w.ch (sub_cost y z) r = rw eu at d in
-          noted_empty notes f row area _ (log.uncharged_ends (height_at (nest + 1)) x y z call (spent_of w) UnitsOut _ (charge_fails (sub_cost y z) (spent_of w) o.over))
+          noted_empty notes row _ (log.uncharged_ends (height_at (nest + 1)) x y z call (spent_of w) UnitsOut _ (charge_fails (sub_cost y z) (spent_of w) o.over))
 
       module _ (v : Substituted) (eu : u ≡ Done v) where
         abbrev w' : Work
@@ -130,10 +130,10 @@ module _ (f : List ℕ) (p : Patterns) (room : List ℕ) (w : Work) (n : ℕ) (h
             renamed f room r₂ w q x _ _ (goes_on f room r₁ r₂ w w' q x _ grown k₂)
             (sym (is_call nest ∙ seq_at (charge (sub_cost y z)) (settle (again nest) x (sub_args y z) (reads_low y)) (spent_of w) (spent_of w') tt charged))
 
-        pub change_settled_noted : (nest : ℕ) (notes : Notes) (row row₁ : List (List ℕ)) (area area₁ : List ℕ)
-            → Noted notes f row row₁ area area₁ (settle_ends (height_at (nest + 1)) (tree_at f r₁ n) (tree_at f r₁ v.node) v.low (record { units = v.ch.units; passes = w.passes; mark = w.mark }))
-            → Noted notes f row row₁ area area₁ (rule_ends (height_at (nest + 1)) 4 (tree_at f room n) (spent_of w))
-        change_settled_noted nest notes row row₁ area area₁ k =
-            let k₂ : Noted notes f row row₁ area area₁ (settle_ends (height_at (nest + 1)) x (sub_args y z) (reads_low y) (spent_of w')) =
+        pub change_settled_noted : (nest : ℕ) (notes : Notes) (row row₁ : List (List ℕ))
+            → Noted notes row row₁ (settle_ends (height_at (nest + 1)) (tree_at f r₁ n) (tree_at f r₁ v.node) v.low (record { units = v.ch.units; passes = w.passes; mark = w.mark }))
+            → Noted notes row row₁ (rule_ends (height_at (nest + 1)) 4 (tree_at f room n) (spent_of w))
+        change_settled_noted nest notes row row₁ k =
+            let k₂ : Noted notes row row₁ (settle_ends (height_at (nest + 1)) x (sub_args y z) (reads_low y) (spent_of w')) =
             rw (grown_tree grown h.ready, done_so.bought.stands.tree, done_so.low) at k in
-            noted_as notes f row row₁ area area₁ _ _ k₂ (log.charged_ends (height_at (nest + 1)) x y z call (spent_of w) (spent_of w') charged)
+            noted_as notes row row₁ _ _ k₂ (log.charged_ends (height_at (nest + 1)) x y z call (spent_of w) (spent_of w') charged)

@@ -17,8 +17,8 @@ use Rattle.patterns.specs.Patterns.{Patterned}
 use Rattle.run_state.specs.declared.Work.{Work}
 use Rattle.run_state.specs.Work.{spent_of, Did}
 use Rattle.run_state.specs.declared.State.{State}
-use Rattle.run_state.specs.State.{count_records, Valid, sounds}
-use Rattle.noting.specs.Notes.{Noted}
+use Rattle.run_state.specs.State.{Valid, sounds}
+use Rattle.run_state.specs.Notes.{count_records, Noted}
 use Rattle.run_state.specs.declared.Notes.{Notes}
 use Rattle.driver_parts.specs.Turns.{Fine, fresh_work}
 
@@ -38,6 +38,6 @@ module _ (f s : List ℕ) (w : Work) (c : Charges) (n : ℕ) (e : w ≡ fresh_wo
       → Did f s t (fresh_work c) (tree_at f s n) (optimize_sexp nesting_limit (tree_at f s n) (spent_of (fresh_work c))) v
   started t v d = rw e at d
 
-  pub started_noted : (notes : Notes) (row row₁ : List (List ℕ)) (area area₁ : List ℕ) → Noted notes f row row₁ area area₁ (ends (65 - 1) (tree_at f s n) (spent_of w))
-      → Noted notes f row row₁ area area₁ (ends nesting_limit (tree_at f s n) (spent_of (fresh_work c)))
-  started_noted notes row row₁ area area₁ k = rw e at k
+  pub started_noted : (notes : Notes) (row row₁ : List (List ℕ)) → Noted notes row row₁ (ends (65 - 1) (tree_at f s n) (spent_of w))
+      → Noted notes row row₁ (ends nesting_limit (tree_at f s n) (spent_of (fresh_work c)))
+  started_noted notes row row₁ k = rw e at k

@@ -8,8 +8,8 @@ ghost use Rattle.store.specs.Nodes.{tree_in};
 ghost use Rattle.store.specs.Store.{Ready};
 ghost use Rattle.patterns.specs.Patterns.{Patterned};
 ghost use Rattle.run_state.specs.Work.{spent_of, Did};
-ghost use Rattle.run_state.specs.State.{count_records, Valid, Still};
-ghost use Rattle.noting.specs.Notes.{Noted};
+ghost use Rattle.run_state.specs.State.{Valid, Still};
+ghost use Rattle.run_state.specs.Notes.{count_records, Noted};
 ghost use Rattle.driver_parts.specs.Turns.{again, optimizer, one_turn, Fine, fresh_work};
 ghost use Rattle.driver_parts.specs.Walk.{walk, Walked};
 ghost use Rattle.driver.specs.Alone.{one_rule};
@@ -29,7 +29,6 @@ fn operands(
     form: &[u8],
     room: &mut [u8],
     row: &mut [Record],
-    area: &mut [u8],
     p: Patterns,
     st: State,
     list: usize,
@@ -39,7 +38,7 @@ fn operands(
     notes: Notes,
 ) -> State
     requires { Fine form.now room.old st.w p list × (nest < 65) × Valid form.now room.old row.old st }
-    ensures { Walked form.now room.old room.new st.w (walk count (again nest) flag (tree_in form room list) (spent_of st.w)) result.w × Still form.now room.new row.new result × Noted notes form.now row.old row.new area.old area.new (ends_over (height_at (nest + 1)) (tree_in form room list) (spent_of st.w)) }
+    ensures { Walked form.now room.old room.new st.w (walk count (again nest) flag (tree_in form room list) (spent_of st.w)) result.w × Still form.now room.new row.new result × Noted notes row.old row.new (ends_over (height_at (nest + 1)) (tree_in form room list) (spent_of st.w)) }
 {
     let mut s = st;
     let mut q = list;
@@ -57,7 +56,7 @@ fn operands(
             }
             Cell::Pair(h, t) => {
                 if 48 <= k {
-                    s = operands(form, room, row, area, p, s, q, nest, count, seen, notes);
+                    s = operands(form, room, row, p, s, q, nest, count, seen, notes);
                     let c = s.w;
                     let d = driver_parts::put_before(form, room, c, got, k);
                     s.w = d;
@@ -76,7 +75,7 @@ fn operands(
                         q = t;
                     }
                     Cell::Pair(_, _) => {
-                        s = drive(form, room, row, area, p, s, h, nest + 1, notes);
+                        s = drive(form, room, row, p, s, h, nest + 1, notes);
                         let c = s.w;
                         match driver_parts::worked_into(form, room, c, h, count, seen) {
                             Element::Refused => {
@@ -104,7 +103,6 @@ fn settle(
     form: &[u8],
     room: &mut [u8],
     row: &mut [Record],
-    area: &mut [u8],
     p: Patterns,
     st: State,
     r: usize,
@@ -114,13 +112,13 @@ fn settle(
     notes: Notes,
 ) -> State
     requires { Fine form.now room.old st.w p r × Fine form.now room.old st.w p new × (nest < 65) × Valid form.now room.old row.old st }
-    ensures { Did form.now room.old room.new st.w (tree_in form room r) (settle (again nest) (tree_in form room r) (tree_in form room new) low (spent_of st.w)) result.w × Still form.now room.new row.new result × Noted notes form.now row.old row.new area.old area.new (settle_ends (height_at (nest + 1)) (tree_in form room r) (tree_in form room new) low (spent_of st.w)) }
+    ensures { Did form.now room.old room.new st.w (tree_in form room r) (settle (again nest) (tree_in form room r) (tree_in form room new) low (spent_of st.w)) result.w × Still form.now room.new row.new result × Noted notes row.old row.new (settle_ends (height_at (nest + 1)) (tree_in form room r) (tree_in form room new) low (spent_of st.w)) }
 {
     let mut s = st;
     let c = s.w;
     let ch = c.ch;
     if seems::seems_constant(form, room, ch, new) {
-        s = drive(form, room, row, area, p, s, new, nest + 1, notes);
+        s = drive(form, room, row, p, s, new, nest + 1, notes);
         let d = s.w;
         let e = driver_parts::keep_body(form, room, d, r, new, low);
         s.w = e;
@@ -131,7 +129,7 @@ fn settle(
         s.w = d;
         return s;
     }
-    s = operands(form, room, row, area, p, s, new, nest, true, false, notes);
+    s = operands(form, room, row, p, s, new, nest, true, false, notes);
     let d = s.w;
     let e = driver_parts::keep_list(form, room, d, r, low);
     s.w = e;
@@ -143,7 +141,6 @@ fn var_change_optimizer_cons_eval(
     form: &[u8],
     room: &mut [u8],
     row: &mut [Record],
-    area: &mut [u8],
     p: Patterns,
     st: State,
     n: usize,
@@ -151,7 +148,7 @@ fn var_change_optimizer_cons_eval(
     notes: Notes,
 ) -> State
     requires { Fine form.now room.old st.w p n × (nest < 65) × Valid form.now room.old row.old st }
-    ensures { Did form.now room.old room.new st.w (tree_in form room n) (var_change_optimizer_cons_eval (again nest) (tree_in form room n) (spent_of st.w)) result.w × Still form.now room.new row.new result × Noted notes form.now row.old row.new area.old area.new (rule_ends (height_at (nest + 1)) 4 (tree_in form room n) (spent_of st.w)) }
+    ensures { Did form.now room.old room.new st.w (tree_in form room n) (var_change_optimizer_cons_eval (again nest) (tree_in form room n) (spent_of st.w)) result.w × Still form.now room.new row.new result × Noted notes row.old row.new (rule_ends (height_at (nest + 1)) 4 (tree_in form room n) (spent_of st.w)) }
 {
     let mut s = st;
     let c = s.w;
@@ -177,7 +174,7 @@ fn var_change_optimizer_cons_eval(
                     last: Outcome::Same,
                 };
                 s.w = d;
-                s = settle(form, room, row, area, p, s, n, x.node, x.low, nest, notes);
+                s = settle(form, room, row, p, s, n, x.node, x.low, nest, notes);
                 return s;
             }
         },
@@ -191,7 +188,6 @@ fn children_optimizer(
     form: &[u8],
     room: &mut [u8],
     row: &mut [Record],
-    area: &mut [u8],
     p: Patterns,
     st: State,
     n: usize,
@@ -199,7 +195,7 @@ fn children_optimizer(
     notes: Notes,
 ) -> State
     requires { Fine form.now room.old st.w p n × (nest < 65) × Valid form.now room.old row.old st }
-    ensures { Did form.now room.old room.new st.w (tree_in form room n) (children_optimizer (again nest) (tree_in form room n) (spent_of st.w)) result.w × Still form.now room.new row.new result × Noted notes form.now row.old row.new area.old area.new (rule_ends (height_at (nest + 1)) 5 (tree_in form room n) (spent_of st.w)) }
+    ensures { Did form.now room.old room.new st.w (tree_in form room n) (children_optimizer (again nest) (tree_in form room n) (spent_of st.w)) result.w × Still form.now room.new row.new result × Noted notes row.old row.new (rule_ends (height_at (nest + 1)) 5 (tree_in form room n) (spent_of st.w)) }
 {
     let mut s = st;
     let c = s.w;
@@ -213,7 +209,7 @@ fn children_optimizer(
         s.w = d;
         return s;
     }
-    s = operands(form, room, row, area, p, s, n, nest, false, false, notes);
+    s = operands(form, room, row, p, s, n, nest, false, false, notes);
     s
 }
 
@@ -224,7 +220,6 @@ fn optimizer(
     form: &[u8],
     room: &mut [u8],
     row: &mut [Record],
-    area: &mut [u8],
     p: Patterns,
     st: State,
     n: usize,
@@ -233,13 +228,13 @@ fn optimizer(
     notes: Notes,
 ) -> State
     requires { Fine form.now room.old st.w p n × (nest < 65) × (0 < rule) × (rule ≤ 8) × Valid form.now room.old row.old st }
-    ensures { Did form.now room.old room.new st.w (tree_in form room n) (optimizer (again nest) rule (tree_in form room n) (spent_of st.w)) result.w × Still form.now room.new row.new result × Noted notes form.now row.old row.new area.old area.new (rule_ends (height_at (nest + 1)) rule (tree_in form room n) (spent_of st.w)) }
+    ensures { Did form.now room.old room.new st.w (tree_in form room n) (optimizer (again nest) rule (tree_in form room n) (spent_of st.w)) result.w × Still form.now room.new row.new result × Noted notes row.old row.new (rule_ends (height_at (nest + 1)) rule (tree_in form room n) (spent_of st.w)) }
 {
     if rule == 4 {
-        return var_change_optimizer_cons_eval(form, room, row, area, p, st, n, nest, notes);
+        return var_change_optimizer_cons_eval(form, room, row, p, st, n, nest, notes);
     }
     if rule == 5 {
-        return children_optimizer(form, room, row, area, p, st, n, nest, notes);
+        return children_optimizer(form, room, row, p, st, n, nest, notes);
     }
     let mut s = st;
     let c = s.w;
@@ -256,7 +251,6 @@ fn turn(
     form: &[u8],
     room: &mut [u8],
     row: &mut [Record],
-    area: &mut [u8],
     p: Patterns,
     st: State,
     n: usize,
@@ -264,7 +258,7 @@ fn turn(
     notes: Notes,
 ) -> State
     requires { Fine form.now room.old st.w p n × (nest < 65) × Valid form.now room.old row.old st }
-    ensures { Did form.now room.old room.new st.w (tree_in form room n) (one_turn (again nest) (tree_in form room n) (spent_of st.w)) result.w × Still form.now room.new row.new result × Noted notes form.now row.old row.new area.old area.new (turn_ends (height_at (nest + 1)) (tree_in form room n) (spent_of st.w)) }
+    ensures { Did form.now room.old room.new st.w (tree_in form room n) (one_turn (again nest) (tree_in form room n) (spent_of st.w)) result.w × Still form.now room.new row.new result × Noted notes row.old row.new (turn_ends (height_at (nest + 1)) (tree_in form room n) (spent_of st.w)) }
 {
     let mut s = st;
     let c = s.w;
@@ -284,15 +278,15 @@ fn turn(
     }
     let mut rule: usize = 1;
     while rule < 9 {
-        s = optimizer(form, room, row, area, p, s, n, nest, rule, notes);
+        s = optimizer(form, room, row, p, s, n, nest, rule, notes);
         let e = s.w;
         let o = e.last;
         match o {
             Outcome::Same => {
                 rule += 1;
             }
-            Outcome::Changed(m) => {
-                noting::note(form, room, row, area, notes, rule, m);
+            Outcome::Changed(_) => {
+                run_state::note(row, notes, rule);
                 return s;
             }
             Outcome::Stopped(_) => {
@@ -309,7 +303,6 @@ pub fn drive(
     form: &[u8],
     room: &mut [u8],
     row: &mut [Record],
-    area: &mut [u8],
     p: Patterns,
     st: State,
     n: usize,
@@ -317,7 +310,7 @@ pub fn drive(
     notes: Notes,
 ) -> State
     requires { Fine form.now room.old st.w p n × (nest < 66) × Valid form.now room.old row.old st }
-    ensures { Did form.now room.old room.new st.w (tree_in form room n) (optimize_sexp (height_at nest) (tree_in form room n) (spent_of st.w)) result.w × Still form.now room.new row.new result × Noted notes form.now row.old row.new area.old area.new (ends (height_at nest) (tree_in form room n) (spent_of st.w)) }
+    ensures { Did form.now room.old room.new st.w (tree_in form room n) (optimize_sexp (height_at nest) (tree_in form room n) (spent_of st.w)) result.w × Still form.now room.new row.new result × Noted notes row.old row.new (ends (height_at nest) (tree_in form room n) (spent_of st.w)) }
 {
     let mut s = st;
     let c = s.w;
@@ -337,7 +330,7 @@ pub fn drive(
     let mut r = n;
     let mut moved = false;
     loop {
-        s = turn(form, room, row, area, p, s, r, nest, notes);
+        s = turn(form, room, row, p, s, r, nest, notes);
         let e = s.w;
         let o = e.last;
         match o {
@@ -371,22 +364,21 @@ fn fresh(ch: Charges) -> State
     State { w: w, used: 0 }
 }
 
-// `optimize_sexp`: the outermost call. What is noted stands in row and area.
+// `optimize_sexp`: the outermost call. What is noted stands in the row.
 pub fn optimize_node(
     form: &[u8],
     room: &mut [u8],
     row: &mut [Record],
-    area: &mut [u8],
     p: Patterns,
     ch: Charges,
     n: usize,
     notes: Notes,
 ) -> Work
     requires { Ready form.now room.old ch n × Patterned form.now room.old ch p × (count_records ≤ length row.old) }
-    ensures { Did form.now room.old room.new (fresh_work ch) (tree_in form room n) (optimize_sexp nesting_limit (tree_in form room n) (spent_of (fresh_work ch))) result × Noted notes form.now row.old row.new area.old area.new (ends nesting_limit (tree_in form room n) (spent_of (fresh_work ch))) }
+    ensures { Did form.now room.old room.new (fresh_work ch) (tree_in form room n) (optimize_sexp nesting_limit (tree_in form room n) (spent_of (fresh_work ch))) result × Noted notes row.old row.new (ends nesting_limit (tree_in form room n) (spent_of (fresh_work ch))) }
 {
     let s = fresh(ch);
-    let r = drive(form, room, row, area, p, s, n, 1, notes);
+    let r = drive(form, room, row, p, s, n, 1, notes);
     r.w
 }
 
@@ -403,7 +395,6 @@ pub fn apply_node(
     ensures { Did form.now room.old room.new (fresh_work ch) (tree_in form room n) (one_rule rule (tree_in form room n) (spent_of (fresh_work ch))) result }
 {
     let mut row = [[0u16; 6]; 256];
-    let mut none = [0u8; 0];
     let mut s = fresh(ch);
     let w = s.w;
     let b = driver_parts::begin(form, room, w, n);
@@ -413,18 +404,7 @@ pub fn apply_node(
         Outcome::Stopped(_) => b,
         Outcome::Same => {
             s.w = b;
-            let r = optimizer(
-                form,
-                room,
-                &mut row[..],
-                &mut none[..],
-                p,
-                s,
-                n,
-                1,
-                rule,
-                Notes::Nothing,
-            );
+            let r = optimizer(form, room, &mut row[..], p, s, n, 1, rule, Notes::Nothing);
             r.w
         }
     }

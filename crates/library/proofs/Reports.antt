@@ -1,7 +1,6 @@
 -- From what a public function promises of its answer to what the library's function of the same work returns and reports. Assumes nothing.
 use mathlib.Core.Path.{◌≡◌, refl, sym, ◌∙◌, ap}
 use mathlib.Core.List.{List, [], ◌∷◌}
-use lib.ListN.{length}
 use Prim.Native.Nat.{ℕ}
 use mir.Val.{bool_byte}
 use Rattle.refusals.specs.declared.Refusal.{Refusal}
@@ -27,10 +26,6 @@ use Rattle.texts.specs.declared.FaultAnswer.{FaultAnswer}
 use Rattle.texts.specs.declared.FaultAnswer.TheVariants.{At, NoFault, Refused as no-fault-told}
 use Rattle.texts.specs.Faults.{fault_says}
 use Rattle.totals.proofs.Adding.{mark_byte}
-use Rattle.meaning.specs.Trace.{replay_run}
-use Rattle.traces.specs.declared.Replayed.{Replayed}
-use Rattle.traces.specs.declared.Replayed.TheVariants.{Agree, Parts as parts_at, Refused as not-replayed}
-use Rattle.traces.specs.Traces.{replay_says, Replays}
 use Rattle.library.specs.Reports.{number_told, report_told, place_told, Reports, Places}
 
 -- whatever an answer tells, the number and the report follow from it
@@ -53,21 +48,6 @@ module _ (o : Outcome) (s s₁ w w₁ q : List ℕ) (a : Answer) (h : Settles op
   pub optimise_done : (r : Report) → a ≡ Answered r → Reports o s s₁ w w₁ q (r.length ∷ r.passes ∷ r.units ∷ bool_byte r.mark ∷ []) 0
   unfolding optimiser.says number_told report_told
   optimise_done r i = reported optimiser.says o s s₁ w w₁ q a (Answered r) h i _ 0 refl (ap (λ (m : ℕ). r.length ∷ r.passes ∷ r.units ∷ m ∷ []) (mark_byte r.mark))
-
--- ---- replay
-
-module _ (f s s₁ q : List ℕ) (a : Replayed) (h : Replays f s a s₁) where
-  pub replay_refused : (e : Refusal) (n : ℕ) → a ≡ not-replayed e → n ≡ number_of e → Reports (replay_run f (length s)) s s₁ [] [] q q n
-  unfolding replay_says number_told report_told
-  replay_refused e n i j = reported replay_says (replay_run f (length s)) s s₁ [] [] q a (not-replayed e) h.settles i q n j refl
-
-  pub replay_agrees : a ≡ Agree → Reports (replay_run f (length s)) s s₁ [] [] q (0 ∷ []) 0
-  unfolding replay_says number_told report_told
-  replay_agrees i = reported replay_says (replay_run f (length s)) s s₁ [] [] q a Agree h.settles i _ 0 refl refl
-
-  pub replay_parts : (k : ℕ) → a ≡ parts_at k → Reports (replay_run f (length s)) s s₁ [] [] q (k ∷ []) 0
-  unfolding replay_says number_told report_told
-  replay_parts k i = reported replay_says (replay_run f (length s)) s s₁ [] [] q a (parts_at k) h.settles i _ 0 refl refl
 
 -- ---- evaluate, from forms or texts
 

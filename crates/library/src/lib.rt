@@ -2,7 +2,6 @@
 // the number of a refusal; a report is written through an array of its own, since neither an enum nor a struct is a result in C.
 ghost use Rattle.std.specs.Prelude.{◌≡◌, length, []};
 ghost use Rattle.meaning.specs.Run.{run};
-ghost use Rattle.meaning.specs.Trace.{trace_run, replay_run};
 ghost use Rattle.form.specs.Bytes as forms;
 ghost use Rattle.evaluation.specs.Bytes as evaluation;
 ghost use Rattle.matcher.specs.Outcome as matcher;
@@ -12,8 +11,7 @@ ghost use Rattle.library.specs.Reports.{Reports, Places};
 ghost use Rattle.library.specs.Totals.{savings_in, numbers_of, Totals};
 
 use umlazgrin::{
-    Answer, Column, EvalAnswer, FaultAnswer, MatchAnswer, ReadAnswer, Refusal, Replayed, Savings,
-    WriteAnswer,
+    Answer, Column, EvalAnswer, FaultAnswer, MatchAnswer, ReadAnswer, Refusal, Savings, WriteAnswer,
 };
 
 // What the matcher returns beside the refusals' numbers.
@@ -189,45 +187,6 @@ pub extern "C" fn umlazgrin_add_form(form: &[u8], room: &mut [u8], report: &mut 
             refusals::number_of(e)
         }
         Column::Full => refusals::number_of(Refusal::ReportFull),
-    }
-}
-
-// ---- traces
-
-// The trace of the form's run. report: length, passes, units, mark.
-#[unsafe(no_mangle)]
-pub extern "C" fn umlazgrin_trace(
-    form: &[u8],
-    room: &mut [u8],
-    out: &mut [u8],
-    report: &mut [usize; 4],
-) -> u8
-    ensures { Reports (trace_run form.now (length room.old) (length out.old)) room.old room.new out.old out.new report.old report.new result }
-{
-    match umlazgrin::trace(form, room, out) {
-        Answer::Refused(e) => refusals::number_of(e),
-        Answer::Answered(t) => {
-            *report = [t.length, t.passes, t.units, t.mark as usize];
-            0
-        }
-    }
-}
-
-// Works a trace's form again. report: the entry at which the two first part, 0 where they agree.
-#[unsafe(no_mangle)]
-pub extern "C" fn umlazgrin_replay(trace: &[u8], room: &mut [u8], report: &mut [usize; 1]) -> u8
-    ensures { Reports (replay_run trace.now (length room.old)) room.old room.new [] [] report.old report.new result }
-{
-    match umlazgrin::replay(trace, room) {
-        Replayed::Refused(e) => refusals::number_of(e),
-        Replayed::Agree => {
-            *report = [0];
-            0
-        }
-        Replayed::Parts(k) => {
-            *report = [k];
-            0
-        }
     }
 }
 

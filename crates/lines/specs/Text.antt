@@ -5,10 +5,10 @@ use Rattle.lines.specs.Hex.{hex_of}
 
 -- as many bytes as an output may have, and as many as a line may have then: two for each, a word, three numbers, the line's end
 abbrev pub out_most : ℕ
-out_most = 65_536
+out_most = 32_768
 
 abbrev pub line_most : ℕ
-line_most = 131_200
+line_most = 65_664
 
 -- what waited up to `at` still waits; or it was written, and nothing waits
 pub data Waits (at r : ℕ) : Type 0 where

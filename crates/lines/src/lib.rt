@@ -5,7 +5,6 @@ mod print;
 mod read;
 
 pub use print::{
-    flush, print_decimal, print_hex, print_no, print_no_line, print_numbers, print_ok, print_word,
-    room_for_line,
+    flush, print_hex, print_no, print_no_line, print_numbers, print_ok, print_word, room_for_line,
 };
 pub use read::{Got, Lines, Spelling, left, next_line, next_two, start};

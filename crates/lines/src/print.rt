@@ -6,8 +6,8 @@ ghost use Rattle.lines.specs.Text.{line_most, Printed, Cleared, ok_tree, decimal
 
 use libc::STDOUT_FILENO;
 
-// As many bytes as a line may have: the hex of 65,536 bytes, a word, three numbers, and the line's end.
-const LINE_MOST: usize = 131200;
+// As many bytes as a line may have: the hex of 32,768 bytes, a word, three numbers, and the line's end.
+const LINE_MOST: usize = 65664;
 
 // Writes what waits.
 pub fn flush(text: &[u8], at: usize) {
@@ -91,7 +91,7 @@ pub fn print_ok(text: &mut [u8], at: usize, tree: &[u8]) -> usize
 }
 
 // A number's decimal digits.
-pub fn print_decimal(text: &mut [u8], at: usize, n: u64) -> usize
+fn put_decimal(text: &mut [u8], at: usize, n: u64) -> usize
     ensures { Printed (decimal_of n) text.old text.new at result }
 {
     let mut digits = [0u8; 20];
@@ -104,7 +104,7 @@ fn print_number(text: &mut [u8], at: usize, n: usize) -> usize
     ensures { Printed (numbers_text (n ∷ [])) text.old text.new at result }
 {
     let k = put(text, at, b' ');
-    print_decimal(text, k, n as u64)
+    put_decimal(text, k, n as u64)
 }
 
 // The end of a line: each number, and the newline.

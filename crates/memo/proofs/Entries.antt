@@ -14,7 +14,7 @@ use Rattle.store.specs.Store.{Ready}
 use Rattle.store.proofs.Ready.{room}
 use Rattle.run_state.specs.declared.Entry.{Entry}
 use Rattle.run_state.specs.declared.Notes.{Notes}
-use Rattle.run_state.specs.declared.Notes.TheVariants.{Nothing, Counts, Lengths, Entries, Replay}
+use Rattle.run_state.specs.declared.Notes.TheVariants.{Nothing, Counts}
 use Rattle.run_state.specs.declared.Work.{Work}
 use Rattle.run_state.specs.State.{entry_at, Sounds}
 use Rattle.run_state.proofs.Entries.{few, sound_at}
@@ -139,25 +139,9 @@ module _ (f s : List ℕ) (row : List (List ℕ)) (w : Work) (used n nest : ℕ)
   looked a e = record { right = rw e says_right; says = e }
 
   -- it is not asked
-  not_asked : (notes : Notes) → Unknown ≡ unless_noted notes (memo_says f s row w used n nest) → Looked f s row w used n nest notes Unknown
-  not_asked notes e = record { right = unknown f s w n nest; says = e }
-
-  module _ (notes : Notes) where
-    pub counting : notes ≡ Counts → Looked f s row w used n nest notes Unknown
-    unfolding unless_noted
-    counting e = rw e (not_asked Counts refl)
-
-    pub measuring : notes ≡ Lengths → Looked f s row w used n nest notes Unknown
-    unfolding unless_noted
-    measuring e = rw e (not_asked Lengths refl)
-
-    pub writing : notes ≡ Entries → Looked f s row w used n nest notes Unknown
-    unfolding unless_noted
-    writing e = rw e (not_asked Entries refl)
-
-    pub replaying : notes ≡ Replay → Looked f s row w used n nest notes Unknown
-    unfolding unless_noted
-    replaying e = rw e (not_asked Replay refl)
+  pub noting : (notes : Notes) → notes ≡ Counts → Looked f s row w used n nest notes Unknown
+  unfolding unless_noted
+  noting notes e = rw e (record { right = unknown f s w n nest; says = refl })
 
   module _ (i : ℕ) (ei : i ≡ first_hit f s row n nest used look_limit 0) (notes : Notes) (silent : notes ≡ Nothing) where
     pub miss : used ≤ i → Looked f s row w used n nest notes Unknown

@@ -20,7 +20,8 @@ use Rattle.run_state.specs.declared.Work.{Work}
 use Rattle.run_state.specs.declared.Entry.{Entry}
 use Rattle.run_state.specs.declared.State.{State}
 use Rattle.run_state.specs.Work.{spent_of}
-use Rattle.run_state.specs.State.{count_records, record_of, Sound, Sounds, Valid}
+use Rattle.run_state.specs.Notes.{count_records}
+use Rattle.run_state.specs.State.{record_of, Sound, Sounds, Valid}
 use Rattle.run_state.proofs.Entries.{few, sounds_more}
 use Rattle.memo.specs.Policy.{low_print, entry_to_store, is_stored, row_after, used_after}
 use Rattle.memo.specs.Memo.{Ended, Small, Stored}

@@ -8,9 +8,10 @@ use Rattle.run_state.specs.declared.Outcome.TheVariants.{Same, Changed}
 use Rattle.run_state.specs.declared.Work.{Work}
 use Rattle.run_state.specs.declared.Entry.{Entry}
 use Rattle.run_state.specs.declared.State.{State}
-use Rattle.run_state.specs.State.{count_records, record_of, entry_at}
+use Rattle.run_state.specs.State.{record_of, entry_at}
 use Rattle.run_state.specs.declared.Notes.{Notes}
-use Rattle.run_state.specs.declared.Notes.TheVariants.{Nothing, Counts, Lengths, Entries, Replay}
+use Rattle.run_state.specs.declared.Notes.TheVariants.{Nothing, Counts}
+use Rattle.run_state.specs.Notes.{count_records}
 use Rattle.sexp.specs.declared.Compared.{Compared}
 use Rattle.sexp.specs.declared.Compared.TheVariants.{Told, Parts}
 use Rattle.sexp.specs.Canon.{compared}
@@ -101,9 +102,6 @@ memo_says f s row w used n nest = says_at row w used (first_hit f s row n nest u
 unfoldable pub unless_noted : Notes → Answer → Answer
 unless_noted Nothing a = a
 unless_noted Counts a = Unknown
-unless_noted Lengths a = Unknown
-unless_noted Entries a = Unknown
-unless_noted Replay a = Unknown
 
 -- ---- storing
 

@@ -246,19 +246,10 @@ pub fn lookup<'a>(
     ensures { Looked form.now room.now row.now w used n nest notes result }
 {
     match notes {
-        Notes::Nothing => {}
         Notes::Counts => {
             return Answer::Unknown;
         }
-        Notes::Lengths => {
-            return Answer::Unknown;
-        }
-        Notes::Entries => {
-            return Answer::Unknown;
-        }
-        Notes::Replay => {
-            return Answer::Unknown;
-        }
+        Notes::Nothing => {}
     }
     let i = find(form, room, row, w, used, n, nest);
     if used <= i {

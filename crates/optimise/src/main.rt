@@ -43,7 +43,7 @@ fn main() {
     let mut form = [0u8; 8193];
     let mut room = [0u8; 65536];
     let mut out = [0u8; 32768];
-    let mut text = [0u8; 135168];
+    let mut text = [0u8; 69632];
     let r = answer(&mut buf, &mut form, &mut room, &mut out, &mut text);
     lines::flush(&text, r.put);
 }

@@ -23,18 +23,18 @@ use Rattle.optimiser.specs.declared.Finished.TheVariants.{Node as finished, Refu
 use Rattle.optimiser.specs.declared.Answer.{Answer}
 use Rattle.optimiser.specs.declared.Answer.TheVariants.{Answered, Refused}
 use Rattle.optimiser.specs.Optimised.{says, Optimised}
-use Rattle.optimiser.specs.Worked.{WorkedTo, WorkedIn, WorkedOk}
+use Rattle.optimiser.specs.Worked.{WorkedTo, WorkedOk}
 
 -- ---- delivering
 
 module _ (f s out : List ℕ) (x : Finished) (o : WorkedOk f s x) where
   pub deliver_refused : (n : Refusal) → x ≡ not-finished n → Delivers says (ended (deliver_run (length out)) (worked f)) out out (Refused n)
-  unfolding WorkedIn says
+  unfolding WorkedOk says
   deliver_refused n e = let by : StoppedBy n (worked f) = rw e at o in ended_refused says (deliver_run (length out)) (worked f) n by.after out (Refused n) by.stops refl
 
   module _ (n : ℕ) (w : Work) (e : x ≡ finished n w) where
-    to : WorkedTo f f s n w
-    unfolding WorkedIn
+    to : WorkedTo f s n w
+    unfolding WorkedOk
     to = rw e at o
 
     pub deliver_writable : Writable f s n

@@ -1,5 +1,5 @@
 -- The work of a run in its room: what each return needs. Assumes nothing.
-use mathlib.Core.Path.{◌≡◌, sym, ◌∙◌, ap, subst}
+use mathlib.Core.Path.{◌≡◌, sym, ◌∙◌, ap, ap₂}
 use mathlib.Core.List.{List}
 use mathlib.Core.Bool.{true}
 use Prim.Native.Nat.{ℕ, ◌≤◌}
@@ -32,14 +32,13 @@ use Rattle.run_state.specs.declared.Outcome.{Outcome}
 use Rattle.run_state.specs.declared.Outcome.TheVariants.{Same, Changed, Stopped}
 use Rattle.run_state.specs.declared.Work.{Work}
 use Rattle.run_state.specs.declared.Notes.{Notes}
-use Rattle.run_state.specs.State.{count_records}
-use Rattle.noting.specs.Notes.{Noted}
-use Rattle.noting.proofs.Noting.{noted_empty, noted_as}
+use Rattle.run_state.specs.Notes.{count_records, Noted}
+use Rattle.run_state.proofs.Noting.{noted_empty, noted_as}
 use Rattle.run_state.specs.Work.{spent_of, StoppedBy, Says, Did}
 use Rattle.driver_parts.specs.Turns.{fresh_work}
 use Rattle.optimiser.specs.declared.Finished.{Finished}
 use Rattle.optimiser.specs.declared.Finished.TheVariants.{Node, Refused}
-use Rattle.optimiser.specs.Worked.{Fresh, finish_at, WorkedIn, WorkedOk}
+use Rattle.optimiser.specs.Worked.{Fresh, finish_at, WorkedOk}
 
 -- ---- the driver's outcome
 
@@ -62,26 +61,26 @@ module _ (w : Work) (n : ℕ) where
 pub row_known : (row : List (List ℕ)) → leb count_records (length row) ≡ true → count_records ≤ length row
 row_known row e = leb_yes count_records (length row) e
 
-module _ (f s s₁ : List ℕ) (from stop : ℕ) (c : Charges) (p : Patterns) (h : Fresh f s c p) (m : Made) (o : FormOk f s s₁ stop from c m) where
-  whole : read_form (span f from stop) 0 ≡ read_form (span f from stop) c.units
-  whole = ap (read_form (span f from stop)) (sym h.units)
+module _ (f s s₁ : List ℕ) (c : Charges) (p : Patterns) (h : Fresh f s c p) (m : Made) (o : FormOk f s s₁ (length f) 0 c m) where
+  whole : read_form f 0 ≡ read_form (span f 0 (length f)) c.units
+  whole = ap₂ read_form (sym (span_all f)) (sym h.units)
 
-  pub read_refused : (n : Refusal) → m ≡ not_made n → WorkedIn (span f from stop) f s₁ (Refused n)
-  unfolding WorkedIn FormOk worked
+  pub read_refused : (n : Refusal) → m ≡ not_made n → WorkedOk f s₁ (Refused n)
+  unfolding WorkedOk FormOk worked
   read_refused n e = go (same_stops whole (rw e at o))
     where
-      go : Stops (read_form (span f from stop) 0) n → StoppedBy n (worked (span f from stop))
+      go : Stops (read_form f 0) n → StoppedBy n (worked f)
       go (stops r i) = record { after = after_reading r; stops = rw (i, worked) }
 
-  pub refused_noted : (notes : Notes) (row : List (List ℕ)) (area : List ℕ) (n : Refusal) → m ≡ not_made n → Noted notes f row row area area (ends_in (span f from stop))
+  pub refused_noted : (notes : Notes) (row : List (List ℕ)) (n : Refusal) → m ≡ not_made n → Noted notes row row (ends_in f)
   unfolding FormOk
-  refused_noted notes row area n e = go (same_stops whole (rw e at o))
+  refused_noted notes row n e = go (same_stops whole (rw e at o))
     where
-      go : Stops (read_form (span f from stop) 0) n → Noted notes f row row area area (ends_in (span f from stop))
-      go (stops r i) = noted_empty notes f row area (ends_in (span f from stop)) (ends_unread (span f from stop) n r i)
+      go : Stops (read_form f 0) n → Noted notes row row (ends_in f)
+      go (stops r i) = noted_empty notes row (ends_in f) (ends_unread f n r i)
 
   module _ (q : ℕ) (d : Charges) (e : m ≡ made q d) where
-    to : ReadTo f s s₁ stop from c d (read_form (span f from stop) c.units) q stop
+    to : ReadTo f s s₁ (length f) 0 c d (read_form (span f 0 (length f)) c.units) q (length f)
     unfolding FormOk
     to = rw e at o
 
@@ -91,32 +90,24 @@ module _ (f s s₁ : List ℕ) (from stop : ℕ) (c : Charges) (p : Patterns) (h
     pub read_patterned : Patterned f s₁ d p
     read_patterned = patterned_grown to.grown h.patterned
 
-    form_is : read_form (span f from stop) 0 ≡ done (tree_at f s₁ q) (left_from f stop stop d.units)
+    form_is : read_form f 0 ≡ done (tree_at f s₁ q) (left_from f (length f) (length f) d.units)
     form_is = whole ∙ to.is
 
-    worked_as : worked (span f from stop) ≡ optimize_sexp nesting_limit (tree_at f s₁ q) (spent_of (fresh_work d))
-    worked_as = worked_read (span f from stop) (tree_at f s₁ q) (left_from f stop stop d.units) form_is
+    worked_as : worked f ≡ optimize_sexp nesting_limit (tree_at f s₁ q) (spent_of (fresh_work d))
+    worked_as = worked_read f (tree_at f s₁ q) (left_from f (length f) (length f) d.units) form_is
 
-    pub worked_noted : (notes : Notes) (row row₁ : List (List ℕ)) (area area₁ : List ℕ) → Noted notes f row row₁ area area₁ (ends nesting_limit (tree_at f s₁ q) (spent_of (fresh_work d))) → Noted notes f row row₁ area area₁ (ends_in (span f from stop))
-    worked_noted notes row row₁ area area₁ k = noted_as notes f row row₁ area area₁ _ _ k (ends_read (span f from stop) (tree_at f s₁ q) (left_from f stop stop d.units) form_is)
+    pub worked_noted : (notes : Notes) (row row₁ : List (List ℕ)) → Noted notes row row₁ (ends nesting_limit (tree_at f s₁ q) (spent_of (fresh_work d))) → Noted notes row row₁ (ends_in f)
+    worked_noted notes row row₁ k = noted_as notes row row₁ _ _ k (ends_read f (tree_at f s₁ q) (left_from f (length f) (length f) d.units) form_is)
 
     pub read_worked : (s₂ : List ℕ) (w : Work) (x : Finished) → x ≡ finish_at q w w.last
-        → Did f s₁ s₂ (fresh_work d) (tree_at f s₁ q) (optimize_sexp nesting_limit (tree_at f s₁ q) (spent_of (fresh_work d))) w → WorkedIn (span f from stop) f s₂ x
-    unfolding Did Says WorkedIn finish_at
+        → Did f s₁ s₂ (fresh_work d) (tree_at f s₁ q) (optimize_sexp nesting_limit (tree_at f s₁ q) (spent_of (fresh_work d))) w → WorkedOk f s₂ x
+    unfolding Did Says WorkedOk finish_at
     read_worked s₂ w x e i = rw e (go w.last i)
       where
-        go : (l : Outcome) → Says f s₁ s₂ (fresh_work d) w (tree_at f s₁ q) (optimize_sexp nesting_limit (tree_at f s₁ q) (spent_of (fresh_work d))) l → WorkedIn (span f from stop) f s₂ (finish_at q w l)
+        go : (l : Outcome) → Says f s₁ s₂ (fresh_work d) w (tree_at f s₁ q) (optimize_sexp nesting_limit (tree_at f s₁ q) (spent_of (fresh_work d))) l → WorkedOk f s₂ (finish_at q w l)
         go Same k = record {
           writable = node_writable f s₂ w.ch q (grown_ready k.grown read_ready);
           is = worked_as ∙ k.gives ∙ ap (λ (t : Tree). done t (spent_of w)) (sym (grown_tree k.grown read_ready));
         }
         go (Changed n) k = record { writable = node_writable f s₂ w.ch n k.ready; is = worked_as ∙ k.gives }
         go (Stopped r) k = record { after = k.after; stops = worked_as ∙ k.stops }
-
--- ---- all of the bytes
-
-pub all_worked : (f s : List ℕ) (x : Finished) → WorkedIn (span f 0 (length f)) f s x → WorkedOk f s x
-all_worked f s x h = subst (λ (g : List ℕ). WorkedIn g f s x) (span_all f) h
-
-pub all_noted : (notes : Notes) (f : List ℕ) (row row₁ : List (List ℕ)) (area area₁ : List ℕ) → Noted notes f row row₁ area area₁ (ends_in (span f 0 (length f))) → Noted notes f row row₁ area area₁ (ends_in f)
-all_noted notes f row row₁ area area₁ h = subst (λ (g : List ℕ). Noted notes f row row₁ area area₁ (ends_in g)) (span_all f) h

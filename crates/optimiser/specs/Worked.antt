@@ -27,16 +27,12 @@ finish_at n w Same = Node n w
 finish_at n w (Changed m) = Node m w
 finish_at n w (Stopped r) = Refused r
 
--- the form g, which stands in f, is worked to the tree of node n, which can be written, and w says what was spent
-pub record WorkedTo (g f s : List ℕ) (n : ℕ) (w : Work) : Type 0 where
+-- the form f is worked to the tree of node n, which can be written, and w says what was spent
+pub record WorkedTo (f s : List ℕ) (n : ℕ) (w : Work) : Type 0 where
   pub writable : Writable f s n
-  pub is : worked g ≡ done (tree_at f s n) (spent_of w)
+  pub is : worked f ≡ done (tree_at f s n) (spent_of w)
 
--- its work, in a room that is now s
-unfoldable pub WorkedIn : List ℕ → List ℕ → List ℕ → Finished → Type 0
-WorkedIn g f s (Node n w) = WorkedTo g f s n w
-WorkedIn g f s (Refused r) = StoppedBy r (worked g)
-
--- where the form is all of f
-abbrev pub WorkedOk : List ℕ → List ℕ → Finished → Type 0
-WorkedOk f s x = WorkedIn f f s x
+-- the form's work, in a room that is now s
+unfoldable pub WorkedOk : List ℕ → List ℕ → Finished → Type 0
+WorkedOk f s (Node n w) = WorkedTo f s n w
+WorkedOk f s (Refused r) = StoppedBy r (worked f)

@@ -1,13 +1,11 @@
 // The optimiser on byte slices: a form is read, worked to its end and written.
 ghost use Rattle.std.specs.Prelude.{◌≡◌, ◌≤◌, length};
-ghost use Rattle.meaning.specs.Limits.{form_limit, room_least};
+ghost use Rattle.meaning.specs.Limits.{room_least};
 ghost use Rattle.meaning.specs.Outcome.{ended, Delivers};
 ghost use Rattle.meaning.specs.Run.{worked, ends_in, deliver_run};
-ghost use Rattle.form.specs.Spans.{span};
-ghost use Rattle.run_state.specs.State.{count_records};
-ghost use Rattle.noting.specs.Notes.{Noted};
+ghost use Rattle.run_state.specs.Notes.{count_records, Noted};
 ghost use Rattle.optimiser.specs.Optimised.{says, Optimised};
-ghost use Rattle.optimiser.specs.Worked.{Fresh, finish_at, WorkedIn, WorkedOk};
+ghost use Rattle.optimiser.specs.Worked.{Fresh, finish_at, WorkedOk};
 
 use form::Extent;
 use patterns::Patterns;
@@ -58,17 +56,7 @@ fn read_and_work(form: &[u8], room: &mut [u8], p: Patterns, ch: Charges) -> Fini
         Made::Refused(e) => Finished::Refused(e),
         Made::Node(n, c) => {
             let mut row = [[0u16; 6]; 256];
-            let mut none = [0u8; 0];
-            let w = driver::optimize_node(
-                form,
-                room,
-                &mut row[..],
-                &mut none[..],
-                p,
-                c,
-                n,
-                Notes::Nothing,
-            );
+            let w = driver::optimize_node(form, room, &mut row[..], p, c, n, Notes::Nothing);
             finish(w, n)
         }
     }
@@ -86,61 +74,36 @@ pub fn worked(form: &[u8], room: &mut [u8]) -> Finished
     read_and_work(form, room, p, c)
 }
 
-// The same of form[from..stop], with a row and an area of the caller's, in which what is noted stands after.
+// The same with a row of the caller's, in which what is noted stands after.
 fn read_and_note(
     form: &[u8],
-    from: usize,
-    stop: usize,
     room: &mut [u8],
     row: &mut [Record],
-    area: &mut [u8],
     p: Patterns,
     ch: Charges,
     notes: Notes,
 ) -> Finished
-    requires { Fresh form.now room.old ch p × (count_records ≤ length row.old) × (from ≤ stop) × (stop ≤ length form.now) × (from ≤ form_limit) }
-    ensures { WorkedIn (span form.now from stop) form.now room.new result × Noted notes form.now row.old row.new area.old area.new (ends_in (span form.now from stop)) }
+    requires { Fresh form.now room.old ch p × (count_records ≤ length row.old) }
+    ensures { WorkedOk form.now room.new result × Noted notes row.old row.new (ends_in form.now) }
 {
-    match form::read_form(form, room, from, stop, ch) {
+    match form::read_form(form, room, 0, form.len(), ch) {
         Made::Refused(e) => Finished::Refused(e),
         Made::Node(n, c) => {
-            let w = driver::optimize_node(form, room, row, area, p, c, n, notes);
+            let w = driver::optimize_node(form, room, row, p, c, n, notes);
             finish(w, n)
         }
     }
 }
 
-pub fn worked_part(
-    form: &[u8],
-    from: usize,
-    stop: usize,
-    room: &mut [u8],
-    row: &mut [Record],
-    area: &mut [u8],
-    notes: Notes,
-) -> Finished
-    requires { (room_least ≤ length room.old) × (count_records ≤ length row.old) × (from ≤ stop) × (stop ≤ length form.now) × (from ≤ form_limit) }
-    ensures { WorkedIn (span form.now from stop) form.now room.new result × Noted notes form.now row.old row.new area.old area.new (ends_in (span form.now from stop)) }
+pub fn worked_noting(form: &[u8], room: &mut [u8], row: &mut [Record], notes: Notes) -> Finished
+    requires { (room_least ≤ length room.old) × (count_records ≤ length row.old) }
+    ensures { WorkedOk form.now room.new result × Noted notes row.old row.new (ends_in form.now) }
 {
     let ch = store::start(form, room);
     let a = patterns::lay_patterns(form, room, ch);
     let p = a.patterns;
     let c = a.ch;
-    read_and_note(form, from, stop, room, row, area, p, c, notes)
-}
-
-// All of the bytes.
-pub fn worked_noting(
-    form: &[u8],
-    room: &mut [u8],
-    row: &mut [Record],
-    area: &mut [u8],
-    notes: Notes,
-) -> Finished
-    requires { (room_least ≤ length room.old) × (count_records ≤ length row.old) }
-    ensures { WorkedOk form.now room.new result × Noted notes form.now row.old row.new area.old area.new (ends_in form.now) }
-{
-    worked_part(form, 0, form.len(), room, row, area, notes)
+    read_and_note(form, room, row, p, c, notes)
 }
 
 // Writes the finished tree where it fits.

@@ -151,6 +151,6 @@ fn turns(buf: &mut [u8], row: &mut [u8], text: &mut [u8])
 fn main() {
     let mut buf = [0u8; 4096];
     let mut row = [0u8; 67];
-    let mut text = [0u8; 135168];
+    let mut text = [0u8; 69632];
     turns(&mut buf, &mut row, &mut text);
 }

@@ -43,22 +43,9 @@ fn of_report() {
     line(Refusal::ReportFull, b"a 4,097th form of a report");
 }
 
-fn of_trace() {
-    line(
-        Refusal::NotATrace,
-        b"not a trace: mark or version wrong or incomplete",
-    );
-    line(
-        Refusal::TraceCut,
-        b"a trace that is cut or has bytes left over",
-    );
-    line(Refusal::TraceLong, b"a trace over 65,536 bytes");
-}
-
 fn main() {
     reading();
     working();
     of_text();
     of_report();
-    of_trace();
 }

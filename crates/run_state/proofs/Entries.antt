@@ -16,7 +16,8 @@ use Rattle.run_state.specs.declared.Outcome.{Outcome}
 use Rattle.run_state.specs.declared.Outcome.TheVariants.{Same, Changed, Stopped}
 use Rattle.run_state.specs.declared.Entry.{Entry}
 use Rattle.run_state.specs.declared.State.{State}
-use Rattle.run_state.specs.State.{count_records, entry_at, record_of, Sound, Sounds, sounds, Valid, UnlessStopped, Still}
+use Rattle.run_state.specs.Notes.{count_records}
+use Rattle.run_state.specs.State.{entry_at, record_of, Sound, Sounds, sounds, Valid, UnlessStopped, Still}
 
 -- ---- the entries in use
 

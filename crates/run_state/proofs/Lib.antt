@@ -1,3 +1,5 @@
 pub mod Does
 pub mod Charged
 pub mod Entries
+pub mod Noting
+pub mod Counting

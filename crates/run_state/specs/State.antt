@@ -6,14 +6,11 @@ use Rattle.meaning.proofs.Memo as law
 use Rattle.store.specs.declared.Charges.{Charges}
 use Rattle.store.specs.Nodes.{tree_at}
 use Rattle.store.specs.Store.{Ready}
+use Rattle.run_state.specs.Notes.{count_records}
 use Rattle.run_state.specs.declared.Outcome.{Outcome}
 use Rattle.run_state.specs.declared.Outcome.TheVariants.{Same, Changed, Stopped}
 use Rattle.run_state.specs.declared.Entry.{Entry}
 use Rattle.run_state.specs.declared.State.{State}
-
--- the last records of a row: what is noted stands there, and no entry
-abbrev pub count_records : ℕ
-count_records = 8
 
 -- ---- entries
 

@@ -1,5 +1,6 @@
 // A run's state: what it has spent and what its last piece of work said, how far its memo is filled, and what it notes.
-ghost use Rattle.std.specs.Prelude.{◌≡◌};
+ghost use Rattle.std.specs.Prelude.{◌≡◌, ◌<◌, ◌≤◌, length};
+ghost use Rattle.run_state.specs.Notes.{count_records, one_more, noted, count_in};
 ghost use Rattle.run_state.specs.Work.{with_last, marked_work, work_made};
 
 use refusals::Refusal;
@@ -44,12 +45,6 @@ pub enum Notes {
     Nothing,
     // How often each rule ended one.
     Counts,
-    // How many bytes their entries have in a trace.
-    Lengths,
-    // The entries.
-    Entries,
-    // How far the entries are those of a trace, in which the form stands.
-    Replay,
 }
 
 // What a run has spent, and how many records of the row are the memo's entries.
@@ -103,4 +98,50 @@ pub fn put(w: Work, m: Made) -> Work
             last: Outcome::Changed(n),
         },
     }
+}
+
+// ---- what is noted: the last eight records of the row are the rules' counts, which no entry uses
+
+fn wide(x: u16) -> usize
+    ensures { (result ≡ x) × (result < 65536) }
+{
+    x as usize
+}
+
+// One more: the first number counts, the second how often it was full. (A run has 65,536 passes at most: both are never full.)
+fn one_more(a: Record) -> Record
+    ensures { result ≡ one_more a }
+{
+    if a[0] < 65535 {
+        return [a[0] + 1, a[1], 0, 0, 0, 0];
+    }
+    if a[1] < 65535 {
+        return [0, a[1] + 1, 0, 0, 0, 0];
+    }
+    a
+}
+
+// Rule number k ended a pass.
+pub fn note(row: &mut [Record], notes: Notes, k: usize)
+    requires { (count_records ≤ length row.old) × (0 < k) × (k ≤ count_records) }
+    ensures { row.new ≡ noted notes row.old k }
+{
+    match notes {
+        Notes::Nothing => {}
+        Notes::Counts => {
+            let i = row.len() - 8 + (k - 1);
+            let a = row[i];
+            let b = one_more(a);
+            row[i] = b;
+        }
+    }
+}
+
+// How often rule number k ended a pass.
+pub fn count_in(row: &[Record], k: usize) -> usize
+    requires { (count_records ≤ length row.now) × (0 < k) × (k ≤ count_records) }
+    ensures { (result ≡ count_in row.now k) × (result < 4294967296) }
+{
+    let a = row[row.len() - 8 + (k - 1)];
+    wide(a[0]) + wide(a[1]) * 65536
 }

@@ -185,6 +185,6 @@ fn main() {
     let mut buf = [0u8; 4096];
     let mut forms = [0u8; 8193];
     let mut room = [0u8; 65536];
-    let mut text = [0u8; 135168];
+    let mut text = [0u8; 69632];
     list(&mut buf, &mut forms, &mut room, &mut text);
 }

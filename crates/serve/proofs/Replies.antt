@@ -4,7 +4,6 @@ use mathlib.Core.List.{List}
 use mathlib.Core.Path.{◌≡◌}
 use lib.ListN.{length, take}
 use Rattle.meaning.specs.Run.{run}
-use Rattle.meaning.specs.Trace.{trace_run, replay_run}
 use Rattle.evaluation.specs.Bytes.{outcome}
 use Rattle.form.specs.Bytes.{write_outcome}
 use Rattle.lines.specs.declared.read.Got.TheVariants.{Form}
@@ -22,10 +21,8 @@ use Rattle.texts.specs.Outcomes.{read_text_outcome, write_text_outcome, optimise
 use Rattle.texts.specs.Faults.{fault_outcome}
 use Rattle.text_line.specs.Line.{text_line, bare_line, fault_line}
 use Rattle.text_line.proofs.Counts as texts
-use Rattle.trace_line.specs.Line.{traced_line, replayed_line}
-use Rattle.trace_line.proofs.Laws as traces
 use Rattle.serve.specs.declared.Program.{Program}
-use Rattle.serve.specs.declared.Program.TheVariants.{Optimise, Evaluate, Match, Rule, Read, ReadText, WriteText, OptimiseText, EvaluateText, TextFault, Trace, Replay}
+use Rattle.serve.specs.declared.Program.TheVariants.{Optimise, Evaluate, Match, Rule, Read, ReadText, WriteText, OptimiseText, EvaluateText, TextFault}
 use Rattle.serve.specs.Reply.{reply}
 
 pub reply_short : (p : Program) (f : List ℕ) (first room out : ℕ) → out ≤ out_most → length (reply p room out f first) ≤ line_most
@@ -40,8 +37,6 @@ reply_short WriteText f first room out h = texts.bare_short out (write_text_outc
 reply_short OptimiseText f first room out h = texts.text_short out (optimise_text_outcome f room out) h (texts.optimised_counted f room out)
 reply_short EvaluateText f first room out h = texts.text_short out (evaluate_text_outcome f first room out) h (texts.evaluated_counted f first room out)
 reply_short TextFault f first room out h = texts.fault_short f room
-reply_short Trace f first room out h = traces.traced_short f room out h
-reply_short Replay f first room out h = traces.replayed_short f room
 
 module _ (p : Program) (f : List ℕ) (first room out : ℕ) (t t' : List ℕ) (at r : ℕ) where
   pub optimised : Printed (line_of (run f room out)) t t' at r → p ≡ Optimise → Printed (reply p room out f first) t t' at r
@@ -79,14 +74,6 @@ module _ (p : Program) (f : List ℕ) (first room out : ℕ) (t t' : List ℕ) (
   pub text_evaluated : Printed (text_line (evaluate_text_outcome f first room out)) t t' at r → p ≡ EvaluateText → Printed (reply p room out f first) t t' at r
   unfolding reply
   text_evaluated h e = rw e h
-
-  pub traced : Printed (traced_line (trace_run f room out)) t t' at r → p ≡ Trace → Printed (reply p room out f first) t t' at r
-  unfolding reply
-  traced h e = rw e h
-
-  pub replayed : Printed (replayed_line (replay_run f room)) t t' at r → p ≡ Replay → Printed (reply p room out f first) t t' at r
-  unfolding reply
-  replayed h e = rw e h
 
   pub text_faulted : Printed (fault_line (fault_outcome f room)) t t' at r → p ≡ TextFault → Printed (reply p room out f first) t t' at r
   unfolding reply

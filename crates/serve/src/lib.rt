@@ -29,10 +29,6 @@ pub enum Program {
     EvaluateText,
     // A text: where it stops, if it does not parse.
     TextFault,
-    // A form: the trace of its run.
-    Trace,
-    // A trace: whether the run of its form agrees with it.
-    Replay,
 }
 
 // How the program's lines spell bytes.
@@ -48,8 +44,6 @@ fn spelling(which: Program) -> Spelling {
         Program::OptimiseText => Spelling::Raw,
         Program::EvaluateText => Spelling::Raw,
         Program::TextFault => Spelling::Raw,
-        Program::Trace => Spelling::Hex,
-        Program::Replay => Spelling::Hex,
     }
 }
 
@@ -66,8 +60,6 @@ fn takes_two(which: Program) -> bool {
         Program::OptimiseText => false,
         Program::EvaluateText => true,
         Program::TextFault => false,
-        Program::Trace => false,
-        Program::Replay => false,
     }
 }
 
@@ -106,8 +98,6 @@ fn answer(
         Program::OptimiseText => text_line::print_optimised(forms, room, out, text, at),
         Program::EvaluateText => text_line::print_evaluated(forms, first, room, out, text, at),
         Program::TextFault => text_line::print_fault(forms, room, text, at),
-        Program::Trace => trace_line::print_traced(forms, room, out, text, at),
-        Program::Replay => trace_line::print_replayed(forms, room, text, at),
     }
 }
 
@@ -163,30 +153,13 @@ fn turns(
     }
 }
 
-// A form has at most 8,192 bytes, a text at most 32,768 and a trace 65,536, and of each line one byte more is kept: a longer one is
-// refused. What waits has room for the longest line and some before it.
-fn run_short(which: Program) {
+// A form has at most 8,192 bytes and a text at most 32,768, and of each line one byte more is kept: a longer one is refused. What waits
+// has room for the longest line and some before it.
+pub fn run(which: Program) {
     let mut buf = [0u8; 4096];
     let mut forms = [0u8; 65538];
     let mut room = [0u8; 65536];
     let mut out = [0u8; 32768];
-    let mut text = [0u8; 135168];
+    let mut text = [0u8; 69632];
     turns(which, &mut buf, &mut forms, &mut room, &mut out, &mut text);
-}
-
-// The same with an output for a trace.
-fn run_long(which: Program) {
-    let mut buf = [0u8; 4096];
-    let mut forms = [0u8; 65538];
-    let mut room = [0u8; 65536];
-    let mut out = [0u8; 65536];
-    let mut text = [0u8; 135168];
-    turns(which, &mut buf, &mut forms, &mut room, &mut out, &mut text);
-}
-
-pub fn run(which: Program) {
-    match which {
-        Program::Trace => run_long(which),
-        _ => run_short(which),
-    }
 }

@@ -33,7 +33,7 @@ use Rattle.optimiser.specs.declared.Finished.TheVariants.{Node as finished, Refu
 use Rattle.optimiser.specs.declared.Answer.{Answer}
 use Rattle.optimiser.specs.declared.Answer.TheVariants.{Answered, Refused}
 use Rattle.optimiser.specs.Optimised.{says}
-use Rattle.optimiser.specs.Worked.{WorkedTo, WorkedIn, WorkedOk}
+use Rattle.optimiser.specs.Worked.{WorkedTo, WorkedOk}
 use Rattle.notation.specs.Texts.{text_of}
 use Rattle.notation.specs.Grammar.{read_text}
 use Rattle.text_reader.specs.declared.convert.Converted.{Converted}
@@ -138,12 +138,12 @@ module _ (f s w : List ℕ) where
 
 module _ (f s w : List ℕ) (x : Finished) (o : WorkedOk f s x) where
   pub run_refused : (n : Refusal) → x ≡ not-finished n → Delivers says (ended (delivered_run (length w)) (worked f)) w w (Refused n)
-  unfolding WorkedIn says
+  unfolding WorkedOk says
   run_refused n e = let by : StoppedBy n (worked f) = rw e at o in ended_refused says (delivered_run (length w)) (worked f) n by.after w (Refused n) by.stops refl
 
   module _ (n : ℕ) (k : Work) (e : x ≡ finished n k) where
-    to : WorkedTo f f s n k
-    unfolding WorkedIn
+    to : WorkedTo f s n k
+    unfolding WorkedOk
     to = rw e at o
 
     pub run_writable : Writable f s n

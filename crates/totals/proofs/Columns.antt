@@ -11,7 +11,6 @@ use borrow.Author.Tests.{ltb-true, lt-ltb, le-ltb, eqb-true, eqb-false, eq-eqb, 
 use Rattle.refusals.specs.declared.Refusal.{Refusal}
 use Rattle.refusals.specs.declared.Refusal.TheVariants.{RoomSmall, OutputShort}
 use Rattle.refusals.specs.Numbers.{number_of}
-use Rattle.refusals.proofs.Only.{number_least}
 use Rattle.meaning.specs.Tree.{Tree}
 use Rattle.meaning.specs.Limits.{room_least}
 use Rattle.meaning.specs.Meter.{Out, done, stop, Spent, count_of}
@@ -22,6 +21,7 @@ use Rattle.meaning.proofs.Tests.{on_bool, leb_yes}
 use Rattle.meaning.proofs.LogRun.{work_within, work_refused, count_few}
 use Rattle.totals.specs.declared.Savings.{Savings}
 use Rattle.totals.specs.Savings.{form_most, output_most, none_yet, greater, rules_with, with_answer, with_refusal, with_outcome, with_form, savings_from, savings_of, sum_from, forms_of, small_all, is_open}
+use Rattle.totals.proofs.Adding.{number_least}
 
 -- ---- what a run comes to
 

@@ -26,16 +26,16 @@ use Rattle.form.specs.Writes.{Writable, extent}
 use Rattle.run_state.specs.declared.Work.{Work}
 use Rattle.run_state.specs.declared.Notes.TheVariants.{Counts}
 use Rattle.run_state.specs.Work.{spent_of, StoppedBy}
-use Rattle.noting.specs.Notes.{count_in, counts_of, Noted}
-use Rattle.noting.proofs.Counting.{counts_exact}
+use Rattle.run_state.specs.Notes.{count_in, counts_of, Noted}
+use Rattle.run_state.proofs.Counting.{counts_exact}
 use Rattle.optimiser.specs.declared.Finished.{Finished}
 use Rattle.optimiser.specs.declared.Finished.TheVariants.{Node as finished, Refused as not-finished}
-use Rattle.optimiser.specs.Worked.{WorkedTo, WorkedIn, WorkedOk}
+use Rattle.optimiser.specs.Worked.{WorkedTo, WorkedOk}
 use Rattle.totals.specs.declared.Savings.{Savings}
 use Rattle.totals.specs.declared.Column.TheVariants.{Answered, Refused, Full}
 use Rattle.totals.specs.declared.Added.{Added}
 use Rattle.totals.specs.Savings.{output_most, rules_with, with_answer, with_refusal, with_outcome, with_form, is_open}
-use Rattle.totals.specs.Adding.{column_of, Counted, counted, Placed, Takes, Adds}
+use Rattle.totals.specs.Adding.{column_of, Counted, Placed, Takes, Adds}
 
 -- ---- the counts of a row are the log's
 
@@ -44,9 +44,9 @@ unfolding rules_with
 rules_same n c d e =
     rw (e 1 (omega arith) (omega arith), e 2 (omega arith) (omega arith), e 3 (omega arith) (omega arith), e 4 (omega arith) (omega arith), e 5 (omega arith) (omega arith), e 6 (omega arith) (omega arith), e 7 (omega arith) (omega arith), e 8 (omega arith) (omega arith)) refl
 
-counted_so : (f : List ℕ) (row : List (List ℕ)) (l : Log) → Counted f row l → length l < 4294967295 → (k : ℕ) → 0 < k → k ≤ 8 → count_in row k ≡ count_of k l
-unfolding counts_of
-counted_so f row l (counted area area₁ h) few k a b = counts_exact f (replicate 256 (replicate {A = ℕ} 6 0)) row area area₁ l refl h few k a b
+counted_so : (row : List (List ℕ)) (l : Log) → Counted row l → length l < 4294967295 → (k : ℕ) → 0 < k → k ≤ 8 → count_in row k ≡ count_of k l
+unfolding Counted counts_of
+counted_so row l h few k a b = counts_exact (replicate 256 (replicate {A = ℕ} 6 0)) row l refl h few k a b
 
 answer_same : (s : Savings) (a b c d : ℕ) (f g : ℕ → ℕ) → rules_with s.rules f ≡ rules_with s.rules g → with_answer s a b c d f ≡ with_answer s a b c d g
 unfolding with_answer
@@ -60,7 +60,7 @@ module _ (f s : List ℕ) (x : Finished) (o : WorkedOk f s x) (r : Savings) wher
 
   module _ (n : Refusal) (e : x ≡ not-finished n) where
     stopped : StoppedBy n (worked f)
-    unfolding WorkedIn
+    unfolding WorkedOk
     stopped = rw e at o
 
     pub stop_low : number_of n ≤ 14
@@ -75,8 +75,8 @@ module _ (f s : List ℕ) (x : Finished) (o : WorkedOk f s x) (r : Savings) wher
     placed_stop a h = record { savings = h.0 ∙ rw is_refused refl; column = h.1 ∙ rw is_refused refl }
 
   module _ (n : ℕ) (w : Work) (e : x ≡ finished n w) where
-    to : WorkedTo f f s n w
-    unfolding WorkedIn
+    to : WorkedTo f s n w
+    unfolding WorkedOk
     to = rw e at o
 
     pub place_writable : Writable f s n
@@ -119,12 +119,12 @@ module _ (f s : List ℕ) (x : Finished) (o : WorkedOk f s x) (r : Savings) wher
         few : length (ends_in f) < 4294967295
         few = let z = work_within f (tree_at f s n) (spent_of w) to.is in let y = z.few in let v = z.passes in omega (arith, y, v)
 
-        pub placed_answer : (row : List (List ℕ)) → Counted f row (ends_in f) → (q : Savings) → q ≡ with_answer r (length f) k w.passes (mark_number w.mark) (count_in row)
+        pub placed_answer : (row : List (List ℕ)) → Counted row (ends_in f) → (q : Savings) → q ≡ with_answer r (length f) k w.passes (mark_number w.mark) (count_in row)
             → Placed r f (ended (deliver_run output_most) (worked f)) (record { savings = q; column = Answered })
         unfolding with_outcome column_of
         placed_answer row h q eq =
             let e₁ : with_answer r (length f) k w.passes (mark_number w.mark) (count_in row) ≡ with_answer r (length f) k w.passes (mark_number w.mark) (λ j. count_of j (ends_in f)) =
-            answer_same r (length f) k w.passes (mark_number w.mark) (count_in row) (λ j. count_of j (ends_in f)) (rules_same r.rules (count_in row) (λ j. count_of j (ends_in f)) (counted_so f row (ends_in f) h few)) in
+            answer_same r (length f) k w.passes (mark_number w.mark) (count_in row) (λ j. count_of j (ends_in f)) (rules_same r.rules (count_in row) (λ j. count_of j (ends_in f)) (counted_so row (ends_in f) h few)) in
             let e₂ : with_answer r (length f) k w.passes (mark_number w.mark) (λ j. count_of j (ends_in f)) ≡ with_answer r (length f) (length (write (tree_at f s n))) w.passes (mark_number w.mark) (λ j. count_of j (ends_in f)) =
             ap (λ (m : ℕ). with_answer r (length f) m w.passes (mark_number w.mark) (λ j. count_of j (ends_in f))) fits.1 in
             record { savings = eq ∙ e₁ ∙ e₂ ∙ rw is_answered refl; column = rw is_answered refl }
@@ -163,8 +163,9 @@ module _ (s : Savings) (form room : List ℕ) (b : Bool) (eb : b ≡ is_open s) 
         enough = unfold run in_room in (rw (le-leb room_least (length room) l, in_room) refl)
 
 -- what was noted from an empty row on
-pub row_counted : (f : List ℕ) (row : List (List ℕ)) (area area₁ : List ℕ) (l : Log) → Noted Counts f (replicate 256 (replicate {A = ℕ} 6 0)) row area area₁ l → Counted f row l
-row_counted f row area area₁ l h = counted area area₁ h
+pub row_counted : (row : List (List ℕ)) (l : Log) → Noted Counts (replicate 256 (replicate {A = ℕ} 6 0)) row l → Counted row l
+unfolding Counted
+row_counted row l h = h
 
 pub row_long : (row row₁ : List (List ℕ)) → length row₁ ≡ length row → leb 8 (length row) ≡ true → 8 ≤ length row₁
 row_long row row₁ e l = let z = leb_yes 8 (length row) l in omega (arith, e, z)

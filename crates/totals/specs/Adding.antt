@@ -6,7 +6,7 @@ use Rattle.meaning.specs.Meter.{Log}
 use Rattle.meaning.specs.Outcome.{Outcome, answered, refused, room_after}
 use Rattle.meaning.specs.Run.{run, ends_in}
 use Rattle.run_state.specs.declared.Notes.TheVariants.{Counts}
-use Rattle.noting.specs.Notes.{Noted}
+use Rattle.run_state.specs.Notes.{Noted}
 use Rattle.totals.specs.declared.Savings.{Savings}
 use Rattle.totals.specs.declared.Column.{Column}
 use Rattle.totals.specs.declared.Column.TheVariants.{Answered, Refused, Full}
@@ -24,9 +24,9 @@ unfoldable pub column_of : Outcome → Column
 column_of (answered bytes tag numbers) = Answered
 column_of (refused n) = Refused n
 
--- the row's counts are those of a log, from none on, in the work on f (data, not a record: `search` builds records)
-pub data Counted (f : List ℕ) (row : List (List ℕ)) (l : Log) : Type 0 where
-  counted : (area area' : List ℕ) → Noted Counts f (replicate 256 (replicate {A = ℕ} 6 0)) row area area' l → Counted f row l
+-- the rows' counts are those of a log, from none on
+unfoldable pub Counted : List (List ℕ) → Log → Type 0
+Counted row l = Noted Counts (replicate 256 (replicate {A = ℕ} 6 0)) row l
 
 -- a form's outcome is worked into the report
 pub record Placed (s : Savings) (form : List ℕ) (o : Outcome) (r : Added) : Type 0 where

@@ -3,8 +3,7 @@ ghost use Rattle.std.specs.Prelude.{◌≡◌, ◌+◌, ◌^◌, ◌<◌, ◌≤
 ghost use Rattle.refusals.specs.Numbers.{number_of};
 ghost use Rattle.meaning.specs.Outcome.{ended};
 ghost use Rattle.meaning.specs.Run.{mark_number, worked, ends_in, deliver_run};
-ghost use Rattle.run_state.specs.State.{count_records};
-ghost use Rattle.noting.specs.Notes.{count_in};
+ghost use Rattle.run_state.specs.Notes.{count_records, count_in};
 ghost use Rattle.optimiser.specs.Worked.{WorkedOk};
 ghost use Rattle.totals.specs.declared.Column.TheVariants.{Refused};
 ghost use Rattle.totals.specs.Savings.{output_most, greater, rules_with, with_answer, with_refusal, sum_from, fewer, small_all, is_open, none_yet};
@@ -136,7 +135,7 @@ fn with_count(n: u64, row: &[Record], k: usize) -> u64
     requires { (n < 2 ^ 63) × (count_records ≤ length row.now) × (0 < k) × (k ≤ count_records) }
     ensures { result ≡ n + count_in row.now k }
 {
-    n + noting::count_in(row, k) as u64
+    n + run_state::count_in(row, k) as u64
 }
 
 fn with_counts(n: [u64; 8], row: &[Record]) -> [u64; 8]
@@ -200,7 +199,7 @@ fn refused(s: Savings, e: Refusal) -> Added
 
 // The report after the form's work. The finished tree is measured, not written.
 fn place<'a>(form: &'a [u8], room: &'a [u8], row: &'a [Record], x: Finished, s: Savings) -> Added
-    requires { (is_open s ≡ true) × WorkedOk form.now room.now x × (count_records ≤ length row.now) × Counted form.now row.now (ends_in form.now) }
+    requires { (is_open s ≡ true) × WorkedOk form.now room.now x × (count_records ≤ length row.now) × Counted row.now (ends_in form.now) }
     ensures { Placed s form.now (ended (deliver_run output_most) (worked form.now)) result }
 {
     match x {
@@ -238,8 +237,7 @@ pub fn add_form(form: &[u8], room: &mut [u8], s: Savings) -> Added
         return refused(s, Refusal::RoomSmall);
     }
     let mut row = [[0u16; 6]; 256];
-    let mut none = [0u8; 0];
-    let x = optimiser::worked_noting(form, room, &mut row[..], &mut none[..], Notes::Counts);
+    let x = optimiser::worked_noting(form, room, &mut row[..], Notes::Counts);
     let a = place(form, room, &row[..], x, s);
     store::zero_room(room);
     a

@@ -6,4 +6,3 @@ pub use optimiser::{Answer, Report, optimise};
 pub use refusals::Refusal;
 pub use texts::{FaultAnswer, evaluate_text, optimise_text, read_text, text_fault, write_text};
 pub use totals::{Added, Column, Savings, add_form, none_yet};
-pub use traces::{Replayed, replay, trace};

@@ -11,7 +11,6 @@ mod kept;
 mod large;
 mod lengths;
 mod limits;
-mod long_traces;
 pub mod options;
 mod pairs_deep;
 mod pairs_eval;
@@ -34,7 +33,6 @@ mod texts_damaged;
 mod texts_growing;
 mod texts_pairs;
 mod texts_small;
-pub mod traces;
 mod tree;
 mod trees;
 mod wide;
@@ -53,7 +51,6 @@ pub fn print(options: &Options, sink: &mut Sink) -> bool {
         "deep" => deep::print(sink),
         "lengths" => lengths::print(sink),
         "limits" => limits::print(sink),
-        "long-traces" => long_traces::print(sink),
         "repeats" => repeats::print(sink),
         "wide" => wide::print(sink),
         "large" => large::print(options, sink),
@@ -74,7 +71,6 @@ pub fn print(options: &Options, sink: &mut Sink) -> bool {
         "path-bytes" => paths::bytes(options, sink),
         "path-atoms" => paths::atoms(options, sink),
         "path-rows" => paths::rows(options, sink),
-        "traces-damaged" => traces::print(options, sink),
         "trees" => trees::print(options, sink),
         "texts-border" => texts_border::print(sink),
         "texts-bytes" => texts_bytes::print(options, sink),

@@ -7,8 +7,7 @@ families: bytes, path-bytes (--max: bytes in a form or in a path, to 3)
           code, kept, damaged, large, rule-1 to rule-8, pairs-match, pairs-place, pairs-eval, trees, path-atoms (--seed, --count)
           spelled (--seed, --count: forms, each on two lines)
           shared, path-rows (--seed, --count: random ones after the fixed ones)
-          limits, lengths, repeats, wide, deep, long-traces, pairs-deep
-          traces-damaged (--seed, --count: random ones after the fixed ones; good traces as `oracle trace` prints them on standard input)
+          limits, lengths, repeats, wide, deep, pairs-deep
           texts-damaged, texts-bytes, texts-growing, texts-pairs (--seed, --count), texts-border,
           texts-small (--leaves: tokens in a text, at most): texts in the readable notation
 --names puts a name before each form

@@ -7,7 +7,6 @@ pub mod paths;
 pub mod readable;
 pub mod runner;
 pub mod savings;
-pub mod traces;
 
 use clvm_rs::allocator::Allocator;
 use clvm_rs::run::Bounds;

@@ -9,7 +9,7 @@ use oracle::savings::print_report;
 use oracle::{store, STACK};
 
 const USAGE: &str = "Give one mode: tree, full, full --trace, full --rules, full --causes, match, eval, rule 1 to rule 8, read, \
-read-text, write-text, optimise-text, evaluate-text, text-fault, paths, trace, trace --unfinished, replay, trace-text, or savings.";
+read-text, write-text, optimise-text, evaluate-text, text-fault, paths, or savings.";
 
 /// An answer for each line, or one report over all of them.
 enum Asked {
@@ -41,10 +41,6 @@ fn mode(words: &[String]) -> Option<Mode> {
         ["evaluate-text"] => Mode::EvaluateText,
         ["text-fault"] => Mode::TextFault,
         ["paths"] => Mode::Paths,
-        ["trace"] => Mode::Trace,
-        ["trace", "--unfinished"] => Mode::TraceUnfinished,
-        ["replay"] => Mode::Replay,
-        ["trace-text"] => Mode::TraceText,
         ["rule", number @ ("1" | "2" | "3" | "4" | "5" | "6" | "7" | "8")] => {
             Mode::Rule(number.parse().unwrap())
         }

@@ -6,14 +6,13 @@ use std::rc::Rc;
 
 use clvm_rs::allocator::{Allocator, NodePtr};
 use clvm_rs::error::EvalErr;
-use clvm_rs::run::{write, GaveUp, Trace};
+use clvm_rs::run::{write, GaveUp};
 
 use crate::form::{from_hex, put_hex, read};
 use crate::matcher::{matches, published_agrees, Matched};
 use crate::paths;
 use crate::readable::{read_text, text_fault, write_text};
 use crate::runner::{evaluate, Runner};
-use crate::traces;
 
 /// What a result may be written into.
 pub const OUTPUT: usize = 32_768;
@@ -37,14 +36,9 @@ pub enum Mode {
     EvaluateText,
     TextFault,
     Paths,
-    Trace,
-    TraceUnfinished,
-    Replay,
-    TraceText,
 }
 
 pub struct Said {
-    /// In `trace-text` several lines.
     pub line: String,
     /// The line was not of hex digits, or a second line was missing.
     pub no_line: bool,
@@ -68,7 +62,7 @@ pub fn answer(mode: Mode, store: &mut Allocator, line: &[u8]) -> Said {
     };
     store.clear(mode != Mode::Tree);
     if mode == Mode::FullTrace {
-        store.run.trace = Some(Trace::whole());
+        store.run.trace = Some(Vec::new());
     }
 
     let worked = catch_unwind(AssertUnwindSafe(|| {
@@ -102,7 +96,7 @@ pub fn answer(mode: Mode, store: &mut Allocator, line: &[u8]) -> Said {
     }
     if mode == Mode::FullTrace {
         said.line.push_str(" |");
-        for (rule, changed) in store.run.trace.take().map_or(Vec::new(), |trace| trace.ended) {
+        for (rule, changed) in store.run.trace.take().unwrap_or_default() {
             write!(said.line, " {rule}:").unwrap();
             match changed {
                 Some(bytes) => put_hex(&bytes, &mut said.line),
@@ -141,9 +135,6 @@ fn work(
     if mode == Mode::Paths {
         out.push_str(&paths::answer(&forms[0]));
         return Ok(());
-    }
-    if let Mode::Trace | Mode::TraceUnfinished | Mode::Replay | Mode::TraceText = mode {
-        return put_traced(mode, store, &forms[0], out);
     }
     let first = match mode {
         Mode::ReadText | Mode::OptimiseText | Mode::EvaluateText => read_text(store, &forms[0])?,
@@ -241,9 +232,7 @@ fn work(
             put_text(store, value, out)?;
             write!(out, " {steps} {}", store.run.units).unwrap();
         }
-        Mode::TextFault | Mode::Paths | Mode::Trace | Mode::TraceUnfinished | Mode::Replay | Mode::TraceText => {
-            unreachable!("they are answered above")
-        }
+        Mode::TextFault | Mode::Paths => unreachable!("they are answered above"),
     }
     Ok(())
 }
@@ -257,7 +246,7 @@ pub struct Answer {
 }
 
 /// The text with its charges and limits, on a tree that was read.
-pub(crate) fn rewritten(store: &mut Allocator, tree: NodePtr) -> Result<NodePtr, EvalErr> {
+fn rewritten(store: &mut Allocator, tree: NodePtr) -> Result<NodePtr, EvalErr> {
     text_patched::classic::clvm_tools::stages::stage_2::optimize::optimize_sexp(
         store,
         tree,
@@ -307,26 +296,6 @@ fn put_tree(store: &Allocator, tree: NodePtr, out: &mut String) -> Result<(), Ev
 /// The tree in the readable notation, or refusal 14.
 fn put_text(store: &Allocator, tree: NodePtr, out: &mut String) -> Result<(), EvalErr> {
     out.push_str(&write_text(store, tree, OUTPUT).ok_or(EvalErr::Refused(14))?);
-    Ok(())
-}
-
-/// The trace of a form, or what is said of a trace.
-fn put_traced(mode: Mode, store: &mut Allocator, given: &[u8], out: &mut String) -> Result<(), EvalErr> {
-    match mode {
-        Mode::Replay => match traces::replayed(store, given)? {
-            None => out.push_str("agree"),
-            Some(number) => write!(out, "parts {number}").unwrap(),
-        },
-        Mode::TraceText => out.push_str(&traces::listed(store, given)?),
-        _ => {
-            let bytes = match mode {
-                Mode::TraceUnfinished => traces::unfinished(store, given)?,
-                _ => traces::traced(store, given, traces::LONGEST)?.bytes,
-            };
-            out.push_str("ok ");
-            put_hex(&bytes, out);
-        }
-    }
     Ok(())
 }
 

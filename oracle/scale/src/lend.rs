@@ -8,7 +8,7 @@ use crate::{Lengths, Work};
 
 /// The most that is lent; what is not lent of it must stay as it is too.
 pub const MOST_ROOM: usize = umlazgrin::ROOM + 64;
-pub const MOST_OUT: usize = umlazgrin::TRACE;
+pub const MOST_OUT: usize = umlazgrin::OUTPUT;
 
 /// What a report holds before.
 const BEFORE: usize = 0x5eed_5eed_5eed;
@@ -74,8 +74,6 @@ impl Lent {
                 Work::Check => raw::umlazgrin_check(form, count, room, room_length, report.cast()),
                 Work::Write => raw::umlazgrin_write(form, count, room, room_length, out, out_length, report.cast()),
                 Work::AddForm { .. } => raw::umlazgrin_add_form(form, count, room, room_length, savings.cast()),
-                Work::Trace => raw::umlazgrin_trace(form, count, room, room_length, out, out_length, report.cast()),
-                Work::Replay => raw::umlazgrin_replay(form, count, room, room_length, report.cast()),
             }
         };
     }

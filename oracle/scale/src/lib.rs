@@ -4,8 +4,6 @@ pub mod lend;
 pub mod rust;
 pub mod shrink;
 
-use generate::random::Random;
-use generate::traces::{damaged, Trace};
 use lend::Lent;
 use oracle::savings::Savings;
 use rust::{Rust, Want, NO_MATCH};
@@ -21,9 +19,6 @@ pub enum Work {
     Write,
     /// One form worked into a report, with what the report held before.
     AddForm { before: Savings },
-    Trace,
-    /// The bytes are a trace, and no form.
-    Replay,
 }
 
 /// How much is lent.
@@ -35,8 +30,6 @@ pub struct Lengths {
 
 impl Lengths {
     pub const USUAL: Lengths = Lengths { room: umlazgrin::ROOM, out: umlazgrin::OUTPUT };
-    /// No trace is longer.
-    pub const TRACE: Lengths = Lengths { room: umlazgrin::ROOM, out: umlazgrin::TRACE };
 }
 
 /// What both sides said.
@@ -46,8 +39,6 @@ pub enum Said {
     Answered { mark: bool, rules: [u64; 8] },
     /// A refusal, or 100 and 101 of the matcher.
     Number(u8),
-    /// A trace that does not agree with its replay.
-    Parted,
     /// The Rust's work grew beyond the oracle's bounds; nothing was compared.
     GaveUp,
 }
@@ -65,17 +56,6 @@ impl Both {
         Both { rust: Rust::new(), lent: Lent::new(), spoil: None }
     }
 
-    /// The trace of a form as the Rust gives it; of one that is refused, what ended before.
-    pub fn trace(&mut self, form: &[u8]) -> Option<Trace> {
-        self.rust.trace(form).map(|bytes| Trace::read(&bytes).expect("what the oracle writes is whole"))
-    }
-
-    /// A damaged copy of that trace; the number chooses how.
-    pub fn damaged_trace(&mut self, form: &[u8], number: u64) -> Option<Vec<u8>> {
-        let trace = self.trace(form)?;
-        Some(damaged(&mut Random::new(number, 0), &trace, &trace).1)
-    }
-
     /// Runs both sides and compares all; what differs, in words, is the error.
     pub fn compare(&mut self, work: Work, forms: &[u8], lengths: Lengths) -> Result<Said, String> {
         let want = self.rust.asked(work, forms, lengths);
@@ -91,8 +71,7 @@ impl Both {
         self.lent.asked(work, forms, lengths);
         self.lent.same_as(&want, lengths)?;
         Ok(match want {
-            Want::Answer { report, .. } if work == Work::Replay && report[0] > 0 => Said::Parted,
-            Want::Answer { report, .. } => Said::Answered { mark: has_mark(work) && report[3] == 1, rules: [0; 8] },
+            Want::Answer { report, .. } => Said::Answered { mark: work == Work::Optimise && report[3] == 1, rules: [0; 8] },
             Want::Added { number: 0, before, after } => answered_in(&before, &after),
             Want::Added { number, .. } => Said::Number(number),
             Want::Number(number) => Said::Number(number),
@@ -100,11 +79,6 @@ impl Both {
             Want::GaveUp | Want::Broken(_) => Said::GaveUp,
         })
     }
-}
-
-/// Whether the last number of the report is the mark.
-fn has_mark(work: Work) -> bool {
-    matches!(work, Work::Optimise | Work::Trace)
 }
 
 /// What an answered form made of a report.

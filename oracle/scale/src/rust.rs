@@ -10,7 +10,6 @@ use oracle::matcher::{matches, published_agrees, Matched};
 use oracle::modes::full;
 use oracle::runner::evaluate;
 use oracle::savings::{Savings, FORMS, TOO_MANY};
-use oracle::traces::{replayed, traced, unfinished};
 
 use crate::{Lengths, Work};
 
@@ -53,7 +52,7 @@ impl Rust {
 
     fn worked(&mut self, work: Work, forms: &[u8], most: usize) -> Want {
         let store = &mut self.store;
-        caught(|| match work {
+        let worked = catch_unwind(AssertUnwindSafe(|| match work {
             Work::Optimise => optimised(store, forms, most),
             Work::Evaluate { first } => evaluated(store, forms.split_at(first), most),
             Work::Match { first } => matched(store, forms.split_at(first), most, |_| Want::Number(NO_MATCH)),
@@ -61,28 +60,14 @@ impl Rust {
             Work::Check => checked(store, forms),
             Work::Write => written(store, forms, most),
             Work::AddForm { before } => added(store, forms, before),
-            Work::Trace => with_trace(store, forms, most),
-            Work::Replay => compared(store, forms),
-        })
-    }
-
-    /// The trace of a form, or of what its work ended before it was refused; nothing where that is too long.
-    pub fn trace(&mut self, form: &[u8]) -> Option<Vec<u8>> {
-        let store = &mut self.store;
-        match caught(|| unfinished(store, form).map(|bytes| Want::Answer { bytes, report: Vec::new() })) {
-            Want::Answer { bytes, .. } => Some(bytes),
-            _ => None,
+        }));
+        match worked {
+            Ok(Ok(want)) => want,
+            Ok(Err(EvalErr::Refused(number))) => Want::Number(number),
+            Ok(Err(EvalErr::InternalError(_, complaint))) => Want::Broken(complaint),
+            Err(thrown) if thrown.is::<GaveUp>() => Want::GaveUp,
+            Err(thrown) => resume_unwind(thrown),
         }
-    }
-}
-
-fn caught(work: impl FnOnce() -> Asked) -> Want {
-    match catch_unwind(AssertUnwindSafe(work)) {
-        Ok(Ok(want)) => want,
-        Ok(Err(EvalErr::Refused(number))) => Want::Number(number),
-        Ok(Err(EvalErr::InternalError(_, complaint))) => Want::Broken(complaint),
-        Err(thrown) if thrown.is::<GaveUp>() => Want::GaveUp,
-        Err(thrown) => resume_unwind(thrown),
     }
 }
 
@@ -113,17 +98,6 @@ fn optimised(store: &mut Allocator, form: &[u8], most: usize) -> Asked {
     let a = full(store, form, most)?;
     let report = vec![a.tree.len(), a.passes as usize, a.units as usize, a.mark as usize];
     Ok(Want::Answer { bytes: a.tree, report })
-}
-
-fn with_trace(store: &mut Allocator, form: &[u8], most: usize) -> Asked {
-    let t = traced(store, form, most)?;
-    let report = vec![t.bytes.len(), t.passes as usize, t.units as usize, t.mark as usize];
-    Ok(Want::Answer { bytes: t.bytes, report })
-}
-
-fn compared(store: &mut Allocator, trace: &[u8]) -> Asked {
-    let parts = replayed(store, trace)?.unwrap_or(0);
-    Ok(Want::Answer { bytes: Vec::new(), report: vec![parts] })
 }
 
 fn added(store: &mut Allocator, form: &[u8], before: Savings) -> Asked {

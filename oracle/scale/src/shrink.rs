@@ -1,7 +1,6 @@
 //! Makes a form on which something fails smaller, for as long as it still fails.
 
 use clvm_rs::run::put_atom;
-use generate::traces::Trace;
 
 /// What starts at `at`: the place behind a pair's `ff`, or an atom's body.
 enum Start {
@@ -72,27 +71,8 @@ fn smaller(form: &[u8]) -> Vec<Vec<u8>> {
     found
 }
 
-/// Traces that are smaller: in the form, without an entry, in an expression; what is no trace is taken as bytes.
-fn smaller_trace(trace: &[u8]) -> Vec<Vec<u8>> {
-    let Some(fields) = Trace::read(trace) else {
-        return smaller(trace);
-    };
-    let mut found = fields.smaller(smaller);
-    found.sort_by_key(|other| other.len());
-    found
-}
-
 /// The smallest form that this finds on which `fails` still holds.
-pub fn shrink(form: &[u8], fails: impl FnMut(&[u8]) -> bool) -> Vec<u8> {
-    shrink_by(smaller, form, fails)
-}
-
-/// The same of a trace.
-pub fn shrink_trace(trace: &[u8], fails: impl FnMut(&[u8]) -> bool) -> Vec<u8> {
-    shrink_by(smaller_trace, trace, fails)
-}
-
-fn shrink_by(smaller: fn(&[u8]) -> Vec<Vec<u8>>, form: &[u8], mut fails: impl FnMut(&[u8]) -> bool) -> Vec<u8> {
+pub fn shrink(form: &[u8], mut fails: impl FnMut(&[u8]) -> bool) -> Vec<u8> {
     let mut form = form.to_vec();
     while let Some(other) = smaller(&form).into_iter().find(|other| fails(other)) {
         form = other;

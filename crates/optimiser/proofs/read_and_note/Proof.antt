@@ -17,5 +17,4 @@ read_and_note_spec =
     (λ c. (search laws.read_refused, search laws.refused_noted))  -- returns
     (λ c. search rules)  -- same-length-2
     (λ c. search rules)  -- same-length-3
-    (λ c. search rules)  -- same-length-4
-    (λ c. (laws.read_worked _ _ _ _ _ _ _ c.before.before.before.before.before.before.before.before.before.before.before.before.before.before.before.before.before.before.before.before.requires.0 _ c.before.before.before.before.before.before.before.before.before.before.before.before.before.before.before.read_form.ensures _ _ c.before.before.before.before.before.before.before.before.before.before.before.n.given.1 _ _ _ c.finish.ensures c.before.before.before.before.before.before.optimize-node.ensures.0, laws.worked_noted _ _ _ _ _ _ _ c.before.before.before.before.before.before.before.before.before.before.before.before.before.before.before.before.before.before.before.before.requires.0 _ c.before.before.before.before.before.before.before.before.before.before.before.before.before.before.before.read_form.ensures _ _ c.before.before.before.before.before.before.before.before.before.before.before.n.given.1 _ _ _ _ _ c.before.before.before.before.before.before.optimize-node.ensures.1)))  -- returns-2
+    (λ c. (search laws.read_worked, search laws.worked_noted)))  -- returns-2

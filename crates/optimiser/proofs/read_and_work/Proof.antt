@@ -12,10 +12,9 @@ read_and_work_spec =
     (λ c. search rules)  -- enum-known-e
     (λ c. search rules)  -- enum-known-n
     (λ c. search rules)  -- slice-aggregate-optimize-node
-    (λ c. search rules)  -- slice-aggregate-optimize-node-2
     (λ c κs. (search laws.read_ready, search laws.read_patterned, search laws.row_known))  -- optimize-node-requires
     (λ c κs. search rules)  -- finish-requires
     (λ c. search rules)  -- same-length
-    (λ c. laws.all_worked _ _ _ (search laws.read_refused))  -- returns
+    (λ c. search laws.read_refused)  -- returns
     (λ c. search rules)  -- same-length-2
-    (λ c. laws.all_worked _ _ _ (search laws.read_worked)))  -- returns-2
+    (λ c. search laws.read_worked))  -- returns-2

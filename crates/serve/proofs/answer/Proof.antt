@@ -28,10 +28,6 @@ answer_spec =
     (λ c κs. search rules)  -- print-evaluated-requires-2
     (λ c. search rules)  -- enum-told-10
     (λ c κs. search rules)  -- print-fault-requires
-    (λ c. search rules)  -- enum-told-11
-    (λ c κs. search rules)  -- print-traced-requires
-    (λ c. search rules)  -- enum-told-12
-    (λ c κs. search rules)  -- print-replayed-requires
     (λ c. search rules)  -- same-length
     (λ c. search rules)  -- same-length-2
     (λ c. search rules)  -- same-length-3
@@ -70,11 +66,4 @@ answer_spec =
     (λ c. search replies.text_evaluated)  -- returns-9
     (λ c. search rules)  -- same-length-28
     (λ c. search rules)  -- same-length-29
-    (λ c. search replies.text_faulted)  -- returns-10
-    (λ c. search rules)  -- same-length-30
-    (λ c. search rules)  -- same-length-31
-    (λ c. search rules)  -- same-length-32
-    (λ c. search replies.traced)  -- returns-11
-    (λ c. search rules)  -- same-length-33
-    (λ c. search rules)  -- same-length-34
-    (λ c. search replies.replayed))  -- returns-12
+    (λ c. search replies.text_faulted))  -- returns-10

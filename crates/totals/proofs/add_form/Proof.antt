@@ -15,7 +15,6 @@ add_form_spec =
     (λ c κs. (search placing.add_open, search rules))  -- refused-requires
     (λ c. search placing.adds_small)  -- returns-2
     (λ c. search rules)  -- slice-aggregate-worked-noting
-    (λ c. search rules)  -- slice-aggregate-worked-noting-2
     (λ c κs. search rules)  -- worked-noting-requires
     (λ c. search rules)  -- slice-aggregate-place
     (λ c κs. (search placing.add_open, search rules, search placing.row_long, search placing.row_counted))  -- place-requires

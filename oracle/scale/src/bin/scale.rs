@@ -8,10 +8,9 @@ use std::time::Instant;
 use generate::options::Options;
 use generate::random::Random;
 use generate::sink::Sink;
-use generate::traces::{damaged, Trace};
 use oracle::savings::{Savings, COLUMNS, FORMS, NUMBERS};
 use scale::lend::MOST_ROOM;
-use scale::shrink::{shrink, shrink_trace};
+use scale::shrink::shrink;
 use scale::{Both, Lengths, Said, Work};
 
 #[derive(Default)]
@@ -19,8 +18,6 @@ struct Counts {
     forms: u64,
     answered: u64,
     marked: u64,
-    /// Traces that do not agree.
-    parted: u64,
     gave_up: u64,
     numbers: BTreeMap<u8, u64>,
     /// Passes that each rule ended, over the answered forms.
@@ -39,7 +36,6 @@ impl Counts {
                 }
             }
             Said::Number(number) => *self.numbers.entry(number).or_default() += 1,
-            Said::Parted => self.parted += 1,
             Said::GaveUp => self.gave_up += 1,
         }
     }
@@ -49,9 +45,8 @@ impl Counts {
             let numbers: Vec<String> = self.numbers.iter().map(|(n, count)| format!("{n}:{count}")).collect();
             let rules: Vec<String> = (1..).zip(self.rules).map(|(rule, count)| format!("{rule}:{count}")).collect();
             let ended = if self.rules == [0; 8] { String::new() } else { format!(", passes ended by rules {}", rules.join(" ")) };
-            let parted = if self.parted == 0 { String::new() } else { format!(", parted {}", self.parted) };
             println!(
-                "{what}: forms {}, answered {}, marked {}{parted}, refused {}{ended}, gave up {}, different 0",
+                "{what}: forms {}, answered {}, marked {}, refused {}{ended}, gave up {}, different 0",
                 self.forms, self.answered, self.marked, numbers.join(" "), self.gave_up
             );
         }
@@ -62,20 +57,11 @@ struct Scale {
     both: Both,
     /// Chooses what is lent; another seed lends otherwise.
     random: Random,
-    works: [Counts; NAMES.len()],
-    /// The trace before, which damage to the next one takes parts of.
-    before: Option<Trace>,
+    works: [Counts; 8],
 }
 
-/// In a replay, answered are traces that agree.
-const NAMES: [&str; 12] = [
-    "optimise", "evaluate", "match", "check", "write", "match with its place", "savings", "savings, in a report with forms", "trace",
-    "trace, into an output just long enough, too short by one, or empty", "replay of traces", "replay of damaged traces",
-];
-const TRACE: usize = 8;
-const TRACE_FITTED: usize = 9;
-const REPLAY: usize = 10;
-const REPLAY_DAMAGED: usize = 11;
+const NAMES: [&str; 8] =
+    ["optimise", "evaluate", "match", "check", "write", "match with its place", "savings", "savings, in a report with forms"];
 
 impl Scale {
     fn one(&mut self, work: Work, forms: &[u8], lengths: Lengths) {
@@ -88,19 +74,9 @@ impl Scale {
             Work::MatchPlace { .. } => 5,
             Work::AddForm { before } if before == Savings::default() => 6,
             Work::AddForm { .. } => 7,
-            Work::Trace => TRACE,
-            Work::Replay => REPLAY_DAMAGED,
         };
-        self.at(place, work, forms, lengths);
-    }
-
-    /// Compares, and counts at a place of its own.
-    fn at(&mut self, place: usize, work: Work, forms: &[u8], lengths: Lengths) -> Said {
         match self.both.compare(work, forms, lengths) {
-            Ok(said) => {
-                self.works[place].count(said);
-                said
-            }
+            Ok(said) => self.works[place].count(said),
             Err(difference) => self.stop(NAMES[place], work, forms, lengths, &difference),
         }
     }
@@ -115,37 +91,6 @@ impl Scale {
             3 => Lengths { room: self.random.below(MOST_ROOM), out: self.random.below(usual.out) },
             _ => usual,
         }
-    }
-
-    /// A room that may be too small once in sixteen times.
-    fn room(&mut self) -> usize {
-        match self.random.below(32) {
-            0 => self.random.between(umlazgrin::ROOM - 2, MOST_ROOM),
-            1 => self.random.below(MOST_ROOM),
-            _ => umlazgrin::ROOM,
-        }
-    }
-
-    /// The trace of a form, also into an output that just fits or does not; its replay, and that of a damaged copy. A form that is refused
-    /// has a trace of what ended before.
-    fn traces(&mut self, form: &[u8], lengths: Lengths) {
-        let out = if lengths.out == umlazgrin::OUTPUT { umlazgrin::TRACE } else { lengths.out };
-        let said = self.at(TRACE, Work::Trace, form, Lengths { out, ..lengths });
-        let Some(trace) = self.both.trace(form) else {
-            return;
-        };
-        let bytes = trace.written();
-        let out = [bytes.len(), bytes.len() - 1, 0][self.random.below(3)];
-        self.at(TRACE_FITTED, Work::Trace, form, Lengths { out, ..Lengths::USUAL });
-        let room = self.room();
-        let replayed = self.at(REPLAY, Work::Replay, &bytes, Lengths { room, ..Lengths::USUAL });
-        if matches!(said, Said::Answered { .. }) && !matches!(replayed, Said::Answered { .. } | Said::Number(1)) {
-            self.stop(NAMES[REPLAY], Work::Replay, &bytes, Lengths::USUAL, "a trace does not agree with its own replay");
-        }
-        let (_, other) = damaged(&mut self.random, &trace, self.before.as_ref().unwrap_or(&trace));
-        self.before = Some(trace);
-        let room = self.room();
-        self.at(REPLAY_DAMAGED, Work::Replay, &other, Lengths { room, ..Lengths::USUAL });
     }
 
     /// A report that other forms stand in: one that takes a form more, one that is full, or one with a number that is too large.
@@ -177,11 +122,7 @@ impl Scale {
             self.one(Work::Match { first }, &both, lengths);
             return self.one(Work::MatchPlace { first }, &both, lengths);
         }
-        if name.starts_with("trace") {
-            return self.one(Work::Replay, forms[0], lengths);
-        }
         self.one(Work::Optimise, forms[0], lengths);
-        self.traces(forms[0], lengths);
         self.one(Work::AddForm { before: Savings::default() }, forms[0], lengths);
         match self.random.below(8) {
             0 => self.one(Work::Check, forms[0], lengths),
@@ -200,7 +141,6 @@ impl Scale {
         // Of two forms neither is cut: where the one ends would move.
         let small = match work {
             Work::Evaluate { .. } | Work::Match { .. } | Work::MatchPlace { .. } => forms.to_vec(),
-            Work::Replay => shrink_trace(forms, differs),
             _ => shrink(forms, differs),
         };
         let after: u64 = self.works.iter().map(|counts| counts.forms).sum();
@@ -218,7 +158,7 @@ fn hex(bytes: &[u8]) -> String {
 fn run(options: Options, spoil: Option<Vec<u8>>) -> bool {
     let mut both = Both::new();
     both.spoil = spoil;
-    let mut scale = Scale { both, random: Random::new(options.seed, 0x6c65_6e67_7468), works: Default::default(), before: None };
+    let mut scale = Scale { both, random: Random::new(options.seed, 0x6c65_6e67_7468), works: Default::default() };
     let began = Instant::now();
     if !generate::print(&options, &mut Sink::new(|name, forms| scale.forms(name, forms))) {
         eprintln!("scale: no family is called {}", options.family);

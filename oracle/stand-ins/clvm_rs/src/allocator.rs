@@ -251,9 +251,15 @@ impl Allocator {
     /// A rule ended a pass with a new expression.
     pub fn rule_ended(&mut self, name: &str, changed: NodePtr) {
         let rule = self.run.rule_ended(name);
-        if self.run.trace.as_ref().is_some_and(|trace| !trace.is_over()) {
+        if self.run.trace.is_some() {
             let written = crate::run::write(self, changed, crate::run::TRACED_FORM);
-            self.run.trace.as_mut().unwrap().push(rule, written);
+            if let Some(bytes) = &written {
+                self.run.traced += bytes.len();
+                if self.run.traced > crate::run::TRACED_BYTES {
+                    give_up();
+                }
+            }
+            self.run.trace.as_mut().unwrap().push((rule, written));
         }
     }
 

@@ -7,9 +7,9 @@ pub const UNITS: u64 = 32_768;
 pub const PASSES: u64 = 65_536;
 pub const NESTING: u64 = 64;
 
-/// A longer expression is not written in a trace.
+/// A longer expression stands as `long` in a trace.
 pub const TRACED_FORM: usize = 65_536;
-/// Where a whole trace is wanted, one with more bytes than this is given up.
+/// A trace with more bytes than this is given up.
 pub const TRACED_BYTES: usize = 1 << 26;
 
 /// The rules by number, in the driver's order.
@@ -36,39 +36,8 @@ pub struct Run {
     /// The substitution at work read an atom of signed value 0 or less.
     pub low: bool,
     pub ended: [u64; 8],
-    pub trace: Option<Trace>,
-}
-
-/// The passes that rules ended, in the order in which they ended.
-pub struct Trace {
-    /// The rule and the new expression, or nothing where that is too long.
-    pub ended: Vec<(u8, Option<Vec<u8>>)>,
-    bytes: usize,
-    most: Option<usize>,
-}
-
-impl Trace {
-    pub fn whole() -> Self {
-        Trace { ended: Vec::new(), bytes: 0, most: None }
-    }
-
-    /// Nothing more is kept once the expressions have over `most` bytes together, or one was too long.
-    pub fn up_to(most: usize) -> Self {
-        Trace { most: Some(most), ..Trace::whole() }
-    }
-
-    pub fn is_over(&self) -> bool {
-        let too_long = self.ended.last().is_some_and(|(_, written)| written.is_none());
-        self.most.is_some_and(|most| too_long || self.bytes > most)
-    }
-
-    pub fn push(&mut self, rule: u8, written: Option<Vec<u8>>) {
-        self.bytes += written.as_ref().map_or(0, Vec::len);
-        if self.most.is_none() && self.bytes > TRACED_BYTES {
-            give_up();
-        }
-        self.ended.push((rule, written));
-    }
+    pub trace: Option<Vec<(u8, Option<Vec<u8>>)>>,
+    pub traced: usize,
 }
 
 impl Run {

@@ -9,6 +9,6 @@ print_number_spec =
     tie.close
     (tie.spec
     (λ c κs. search rules)  -- put-requires
-    (λ c κs. search rules)  -- print-decimal-requires
+    (λ c κs. search rules)  -- put-decimal-requires
     (λ c. search rules)  -- same-length
     (λ c. search printing.blank_ends))  -- returns

@@ -1,5 +1,0 @@
-pub mod Measuring
-pub mod Comparing
-pub mod Tracing
-pub mod Replaying
-pub mod OnlyOne

@@ -1,2 +1,0 @@
-pub mod Traces
-pub mod Steps
