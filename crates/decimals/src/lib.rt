@@ -8,7 +8,7 @@ ghost use Rattle.decimals.specs.Places.{Holds, Times, Before, Holding, Less, Pas
 ghost use Rattle.decimals.specs.Spelling.{Counting, Spelling};
 
 // Where the bytes begin, which go on to the room's end; that there are more than a form may have; or that a word spells nothing.
-#[derive(Drop)]
+#[derive(Clone, Copy)]
 pub enum Spelled {
     From(usize),
     Long,
@@ -16,7 +16,7 @@ pub enum Spelled {
 }
 
 // Where a number's bytes begin, which go on to the room's end; or that there are more than a form may have.
-#[derive(Drop)]
+#[derive(Clone, Copy)]
 enum Counted {
     From(usize),
     Long,

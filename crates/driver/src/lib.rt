@@ -38,7 +38,7 @@ fn operands(
     notes: Notes,
 ) -> State
     requires { Fine form.now room.old st.w p list × (nest < 65) × Valid form.now room.old row.old st }
-    ensures { Walked form.now room.old room.new st.w (walk count (again nest) flag (tree_in form room list) (spent_of st.w)) result.w × Still form.now room.new row.new result × Noted notes row.old row.new (ends_over (height_at (nest + 1)) (tree_in form room list) (spent_of st.w)) }
+    ensures { Walked form.now room.old room.new st.w (walk count (again nest) flag (tree_in form.now room.old list) (spent_of st.w)) result.w × Still form.now room.new row.new result × Noted notes row.old row.new (ends_over (height_at (nest + 1)) (tree_in form.now room.old list) (spent_of st.w)) }
 {
     let mut s = st;
     let mut q = list;
@@ -112,7 +112,7 @@ fn settle(
     notes: Notes,
 ) -> State
     requires { Fine form.now room.old st.w p r × Fine form.now room.old st.w p new × (nest < 65) × Valid form.now room.old row.old st }
-    ensures { Did form.now room.old room.new st.w (tree_in form room r) (settle (again nest) (tree_in form room r) (tree_in form room new) low (spent_of st.w)) result.w × Still form.now room.new row.new result × Noted notes row.old row.new (settle_ends (height_at (nest + 1)) (tree_in form room r) (tree_in form room new) low (spent_of st.w)) }
+    ensures { Did form.now room.old room.new st.w (tree_in form.now room.old r) (settle (again nest) (tree_in form.now room.old r) (tree_in form.now room.old new) low (spent_of st.w)) result.w × Still form.now room.new row.new result × Noted notes row.old row.new (settle_ends (height_at (nest + 1)) (tree_in form.now room.old r) (tree_in form.now room.old new) low (spent_of st.w)) }
 {
     let mut s = st;
     let c = s.w;
@@ -148,7 +148,7 @@ fn var_change_optimizer_cons_eval(
     notes: Notes,
 ) -> State
     requires { Fine form.now room.old st.w p n × (nest < 65) × Valid form.now room.old row.old st }
-    ensures { Did form.now room.old room.new st.w (tree_in form room n) (var_change_optimizer_cons_eval (again nest) (tree_in form room n) (spent_of st.w)) result.w × Still form.now room.new row.new result × Noted notes row.old row.new (rule_ends (height_at (nest + 1)) 4 (tree_in form room n) (spent_of st.w)) }
+    ensures { Did form.now room.old room.new st.w (tree_in form.now room.old n) (var_change_optimizer_cons_eval (again nest) (tree_in form.now room.old n) (spent_of st.w)) result.w × Still form.now room.new row.new result × Noted notes row.old row.new (rule_ends (height_at (nest + 1)) 4 (tree_in form.now room.old n) (spent_of st.w)) }
 {
     let mut s = st;
     let c = s.w;
@@ -195,7 +195,7 @@ fn children_optimizer(
     notes: Notes,
 ) -> State
     requires { Fine form.now room.old st.w p n × (nest < 65) × Valid form.now room.old row.old st }
-    ensures { Did form.now room.old room.new st.w (tree_in form room n) (children_optimizer (again nest) (tree_in form room n) (spent_of st.w)) result.w × Still form.now room.new row.new result × Noted notes row.old row.new (rule_ends (height_at (nest + 1)) 5 (tree_in form room n) (spent_of st.w)) }
+    ensures { Did form.now room.old room.new st.w (tree_in form.now room.old n) (children_optimizer (again nest) (tree_in form.now room.old n) (spent_of st.w)) result.w × Still form.now room.new row.new result × Noted notes row.old row.new (rule_ends (height_at (nest + 1)) 5 (tree_in form.now room.old n) (spent_of st.w)) }
 {
     let mut s = st;
     let c = s.w;
@@ -228,7 +228,7 @@ fn optimizer(
     notes: Notes,
 ) -> State
     requires { Fine form.now room.old st.w p n × (nest < 65) × (0 < rule) × (rule ≤ 8) × Valid form.now room.old row.old st }
-    ensures { Did form.now room.old room.new st.w (tree_in form room n) (optimizer (again nest) rule (tree_in form room n) (spent_of st.w)) result.w × Still form.now room.new row.new result × Noted notes row.old row.new (rule_ends (height_at (nest + 1)) rule (tree_in form room n) (spent_of st.w)) }
+    ensures { Did form.now room.old room.new st.w (tree_in form.now room.old n) (optimizer (again nest) rule (tree_in form.now room.old n) (spent_of st.w)) result.w × Still form.now room.new row.new result × Noted notes row.old row.new (rule_ends (height_at (nest + 1)) rule (tree_in form.now room.old n) (spent_of st.w)) }
 {
     if rule == 4 {
         return var_change_optimizer_cons_eval(form, room, row, p, st, n, nest, notes);
@@ -258,7 +258,7 @@ fn turn(
     notes: Notes,
 ) -> State
     requires { Fine form.now room.old st.w p n × (nest < 65) × Valid form.now room.old row.old st }
-    ensures { Did form.now room.old room.new st.w (tree_in form room n) (one_turn (again nest) (tree_in form room n) (spent_of st.w)) result.w × Still form.now room.new row.new result × Noted notes row.old row.new (turn_ends (height_at (nest + 1)) (tree_in form room n) (spent_of st.w)) }
+    ensures { Did form.now room.old room.new st.w (tree_in form.now room.old n) (one_turn (again nest) (tree_in form.now room.old n) (spent_of st.w)) result.w × Still form.now room.new row.new result × Noted notes row.old row.new (turn_ends (height_at (nest + 1)) (tree_in form.now room.old n) (spent_of st.w)) }
 {
     let mut s = st;
     let c = s.w;
@@ -310,7 +310,7 @@ pub fn drive(
     notes: Notes,
 ) -> State
     requires { Fine form.now room.old st.w p n × (nest < 66) × Valid form.now room.old row.old st }
-    ensures { Did form.now room.old room.new st.w (tree_in form room n) (optimize_sexp (height_at nest) (tree_in form room n) (spent_of st.w)) result.w × Still form.now room.new row.new result × Noted notes row.old row.new (ends (height_at nest) (tree_in form room n) (spent_of st.w)) }
+    ensures { Did form.now room.old room.new st.w (tree_in form.now room.old n) (optimize_sexp (height_at nest) (tree_in form.now room.old n) (spent_of st.w)) result.w × Still form.now room.new row.new result × Noted notes row.old row.new (ends (height_at nest) (tree_in form.now room.old n) (spent_of st.w)) }
 {
     let mut s = st;
     let c = s.w;
@@ -375,7 +375,7 @@ pub fn optimize_node(
     notes: Notes,
 ) -> Work
     requires { Ready form.now room.old ch n × Patterned form.now room.old ch p × (count_records ≤ length row.old) }
-    ensures { Did form.now room.old room.new (fresh_work ch) (tree_in form room n) (optimize_sexp nesting_limit (tree_in form room n) (spent_of (fresh_work ch))) result × Noted notes row.old row.new (ends nesting_limit (tree_in form room n) (spent_of (fresh_work ch))) }
+    ensures { Did form.now room.old room.new (fresh_work ch) (tree_in form.now room.old n) (optimize_sexp nesting_limit (tree_in form.now room.old n) (spent_of (fresh_work ch))) result × Noted notes row.old row.new (ends nesting_limit (tree_in form.now room.old n) (spent_of (fresh_work ch))) }
 {
     let s = fresh(ch);
     let r = drive(form, room, row, p, s, n, 1, notes);
@@ -392,7 +392,7 @@ pub fn apply_node(
     rule: usize,
 ) -> Work
     requires { Ready form.now room.old ch n × Patterned form.now room.old ch p × (0 < rule) × (rule ≤ 8) }
-    ensures { Did form.now room.old room.new (fresh_work ch) (tree_in form room n) (one_rule rule (tree_in form room n) (spent_of (fresh_work ch))) result }
+    ensures { Did form.now room.old room.new (fresh_work ch) (tree_in form.now room.old n) (one_rule rule (tree_in form.now room.old n) (spent_of (fresh_work ch))) result }
 {
     let mut row = [[0u16; 6]; 256];
     let mut s = fresh(ch);

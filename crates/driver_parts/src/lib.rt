@@ -20,7 +20,7 @@ use store::Cell;
 // ---- the walk over a list
 
 // What became of an element: its node and the flag after it, or a refusal.
-#[derive(Drop)]
+#[derive(Clone, Copy)]
 pub enum Element {
     Put(u16, bool),
     Refused,
@@ -29,7 +29,7 @@ pub enum Element {
 // An operand that `non_constant_count` counts: a pair headed by an atom other than the byte 1.
 fn non_constant_node<'a>(form: &'a [u8], room: &'a [u8], n: usize) -> bool
     requires { Room room.now n }
-    ensures { result ≡ non_constant (tree_in form room n) }
+    ensures { result ≡ non_constant (tree_in form.now room.now n) }
 {
     match store::look_node(room, n) {
         Cell::Pair(o, _) => match store::look_node(room, o) {
@@ -50,7 +50,7 @@ fn flag_after<'a>(
     flag: bool,
 ) -> bool
     requires { Room room.now n }
-    ensures { result ≡ (flag || sets_flag count moved (tree_in form room n)) }
+    ensures { result ≡ (flag || sets_flag count moved (tree_in form.now room.now n)) }
 {
     if flag {
         return true;
@@ -80,7 +80,7 @@ pub fn build(
     make: bool,
 ) -> Work
     requires { Ready form.now room.old w.ch tail × Items room.old w.ch got k }
-    ensures { Walked form.now room.old room.new w (wrap form.now room.old got k (done (ending make (tree_in form room tail)) (spent_of w))) result }
+    ensures { Walked form.now room.old room.new w (wrap form.now room.old got k (done (ending make (tree_in form.now room.old tail)) (spent_of w))) result }
 {
     if !make {
         return run_state::with(w, Outcome::Same);
@@ -128,7 +128,7 @@ pub fn worked_into<'a>(
 // The changed body m of r is given back: the mark goes by that, even where m equals r.
 fn keep(form: &[u8], room: &mut [u8], w: Work, r: usize, m: usize, low: bool) -> Work
     requires { Ready form.now room.old w.ch r × Ready form.now room.old w.ch m }
-    ensures { Did form.now room.old room.new w (tree_in form room r) (kept low (tree_in form room m) (spent_of w)) result }
+    ensures { Did form.now room.old room.new w (tree_in form.now room.old r) (kept low (tree_in form.now room.old m) (spent_of w)) result }
 {
     let ch = w.ch;
     let k = run_state::marked(w, low);
@@ -169,7 +169,7 @@ pub fn keep_list(form: &[u8], room: &mut [u8], w: Work, r: usize, low: bool) -> 
 // Rules 1 to 3 and 6 to 8, by number.
 pub fn simple(form: &[u8], room: &mut [u8], p: Patterns, w: Work, n: usize, rule: usize) -> Work
     requires { Ready form.now room.old w.ch n × Patterned form.now room.old w.ch p × Simple rule }
-    ensures { Did form.now room.old room.new w (tree_in form room n) (optimizer give rule (tree_in form room n) (spent_of w)) result }
+    ensures { Did form.now room.old room.new w (tree_in form.now room.old n) (optimizer give rule (tree_in form.now room.old n) (spent_of w)) result }
 {
     if rule == 1 {
         return rules::cons_optimizer(form, room, p, w, n);

@@ -14,7 +14,7 @@ use refusals::Refusal;
 use store::ROOM;
 
 // The value's length in bytes, and the steps and units spent; or a refusal.
-#[derive(Drop)]
+#[derive(Clone, Copy)]
 pub enum EvalAnswer {
     Value(usize, usize, usize),
     Refused(Refusal),
@@ -40,7 +40,7 @@ pub fn work(forms: &[u8], room: &mut [u8], first: usize) -> Valued
 // Writes the value, which stands at node q, where it fits.
 fn deliver<'a>(forms: &'a [u8], room: &'a [u8], q: usize, m: Meter, out: &mut [u8]) -> EvalAnswer
     requires { Writable forms.now room.now q }
-    ensures { Delivers says (delivered (length out.old) (tree_in forms room q) (state m)) out.old out.new result }
+    ensures { Delivers says (delivered (length out.old) (tree_in forms.now room.now q) (state m)) out.old out.new result }
 {
     let c = m.ch;
     match form::deliver_node(forms, room, q, out) {

@@ -4,7 +4,7 @@ ghost use Rattle.meaning.specs.Tree.{pair, proper_list};
 ghost use Rattle.meaning.specs.Number.{number, lookup};
 ghost use Rattle.meaning.specs.Limits.{pair_cost};
 ghost use Rattle.meaning.specs.Operator.{makes, yes_no, chosen, left_of, right_of, is_pair, same_atom};
-ghost use Rattle.meaning.specs.Operator.{head_of as Operator·head-of};
+ghost use Rattle.meaning.specs.Operator.{head_of as Operator·head_of};
 ghost use Rattle.meaning.specs.Operator.{takes as Operator·takes};
 ghost use Rattle.meaning.specs.Operator.{perform as Operator·perform};
 ghost use Rattle.meaning.specs.Evaluate.{found_b, finish_b, each_value_b, call_b, step_b, evaluate};
@@ -21,20 +21,20 @@ use refusals::Refusal;
 use store::{Cell, Charges, Made};
 
 // Steps of this evaluation, and the run's charges.
-#[derive(Drop)]
+#[derive(Clone, Copy)]
 pub struct Meter {
     pub steps: usize,
     pub ch: Charges,
 }
 
 // A node that stands for the value, and what was spent; or a refusal.
-#[derive(Drop)]
+#[derive(Clone, Copy)]
 pub enum Valued {
     Value(usize, Meter),
     Refused(Refusal),
 }
 
-#[derive(Drop)]
+#[derive(Clone, Copy)]
 pub enum Operator {
     Apply,
     Choose,
@@ -47,7 +47,7 @@ pub enum Operator {
 }
 
 // What stands at the head of an expression.
-#[derive(Drop)]
+#[derive(Clone, Copy)]
 pub enum Head {
     Quote,
     Call(Operator),
@@ -55,14 +55,14 @@ pub enum Head {
 }
 
 // The values of the first three arguments; nil where there are fewer.
-#[derive(Drop)]
+#[derive(Clone, Copy)]
 pub struct Values {
     pub a: usize,
     pub b: usize,
     pub c: usize,
 }
 
-#[derive(Drop)]
+#[derive(Clone, Copy)]
 pub enum Args {
     All(Values, Meter),
     Refused(Refusal),
@@ -70,7 +70,7 @@ pub enum Args {
 
 // What comes of an expression or of an operator's arguments: a value, or a program to run in an environment, and what was spent; or a
 // refusal. (A refusal beside the value, not a Valued for both: an evaluation within another takes 48 bytes less of stack.)
-#[derive(Drop)]
+#[derive(Clone, Copy)]
 pub enum Performed {
     Done(usize, Meter),
     Runs(usize, usize, Meter),
@@ -82,7 +82,7 @@ pub enum Performed {
 // The part of env that the path at node n leads to.
 fn path_node<'a>(form: &'a [u8], room: &'a [u8], m: Meter, n: usize, env: usize) -> Valued
     requires { Ready form.now room.now m.ch n × Ready form.now room.now m.ch env × (cell_at room.now n ≡ Atom) }
-    ensures { ValuedOk form.now room.now room.now m (found_b (lookup (number (bytes_at form.now room.now n)) (tree_in form room env)) (state m)) result }
+    ensures { ValuedOk form.now room.now room.now m (found_b (lookup (number (bytes_at form.now room.now n)) (tree_in form.now room.now env)) (state m)) result }
 {
     let b = store::atom_bytes(form, room, n);
     if paths::is_zero(b) {
@@ -114,7 +114,7 @@ fn path_node<'a>(form: &'a [u8], room: &'a [u8], m: Meter, n: usize, env: usize)
 
 // The table of operators.
 fn head_of(b: &[u8]) -> Head
-    ensures { head_as result ≡ Operator·head-of b.now }
+    ensures { head_as result ≡ Operator·head_of b.now }
 {
     if b.len() != 1 {
         return Head::Other;
@@ -135,7 +135,7 @@ fn head_of(b: &[u8]) -> Head
 
 fn head_node<'a>(form: &'a [u8], room: &'a [u8], n: usize) -> Head
     requires { Room room.now n }
-    ensures { head_as result ≡ head_tree (tree_in form room n) }
+    ensures { head_as result ≡ head_tree (tree_in form.now room.now n) }
 {
     match store::look_node(room, n) {
         Cell::Pair(_, _) => Head::Other,
@@ -162,7 +162,7 @@ fn takes(op: Operator, k: usize) -> bool
 // The list ends in nil, and has as many elements as the operator takes.
 fn accepts<'a>(form: &'a [u8], room: &'a [u8], op: Operator, list: usize) -> bool
     requires { Room room.now list }
-    ensures { result ≡ accepted (op_of op) (proper_list (tree_in form room list)) }
+    ensures { result ≡ accepted (op_of op) (proper_list (tree_in form.now room.now list)) }
 {
     let mut p = list;
     let mut k: usize = 0;
@@ -215,7 +215,7 @@ fn yes_no(form: &[u8], room: &mut [u8], m: Meter, yes: bool) -> Valued
 // `i`: a nil condition picks the third.
 fn choose<'a>(form: &'a [u8], room: &'a [u8], m: Meter, v: Values) -> Valued
     requires { Nodes form.now room.now m.ch v }
-    ensures { ValuedOk form.now room.now room.now m (finish_b evaluate (makes (chosen (tree_in form room v.a) (tree_in form room v.b) (tree_in form room v.c)) 0) (state m)) result }
+    ensures { ValuedOk form.now room.now room.now m (finish_b evaluate (makes (chosen (tree_in form.now room.now v.a) (tree_in form.now room.now v.b) (tree_in form.now room.now v.c)) 0) (state m)) result }
 {
     if sexp::is_nil_node(form, room, v.a) {
         return Valued::Value(v.c, m);
@@ -226,7 +226,7 @@ fn choose<'a>(form: &'a [u8], room: &'a [u8], m: Meter, v: Values) -> Valued
 // `c`
 fn cons(form: &[u8], room: &mut [u8], m: Meter, l: usize, r: usize) -> Valued
     requires { Ready form.now room.old m.ch l × Ready form.now room.old m.ch r }
-    ensures { ValuedOk form.now room.old room.new m (finish_b evaluate (makes (pair (tree_in form room l) (tree_in form room r)) pair_cost) (state m)) result }
+    ensures { ValuedOk form.now room.old room.new m (finish_b evaluate (makes (pair (tree_in form.now room.old l) (tree_in form.now room.old r)) pair_cost) (state m)) result }
 {
     let ch = m.ch;
     metered(store::pair_node(form, room, ch, l, r), m.steps)
@@ -235,7 +235,7 @@ fn cons(form: &[u8], room: &mut [u8], m: Meter, l: usize, r: usize) -> Valued
 // `f`
 fn first<'a>(form: &'a [u8], room: &'a [u8], m: Meter, n: usize) -> Valued
     requires { Ready form.now room.now m.ch n }
-    ensures { ValuedOk form.now room.now room.now m (finish_b evaluate (left_of (tree_in form room n)) (state m)) result }
+    ensures { ValuedOk form.now room.now room.now m (finish_b evaluate (left_of (tree_in form.now room.now n)) (state m)) result }
 {
     match store::look_node(room, n) {
         Cell::Pair(l, _) => Valued::Value(l, m),
@@ -246,7 +246,7 @@ fn first<'a>(form: &'a [u8], room: &'a [u8], m: Meter, n: usize) -> Valued
 // `r`
 fn rest<'a>(form: &'a [u8], room: &'a [u8], m: Meter, n: usize) -> Valued
     requires { Ready form.now room.now m.ch n }
-    ensures { ValuedOk form.now room.now room.now m (finish_b evaluate (right_of (tree_in form room n)) (state m)) result }
+    ensures { ValuedOk form.now room.now room.now m (finish_b evaluate (right_of (tree_in form.now room.now n)) (state m)) result }
 {
     match store::look_node(room, n) {
         Cell::Pair(_, r) => Valued::Value(r, m),
@@ -257,7 +257,7 @@ fn rest<'a>(form: &'a [u8], room: &'a [u8], m: Meter, n: usize) -> Valued
 // `l`
 fn listp(form: &[u8], room: &mut [u8], m: Meter, n: usize) -> Valued
     requires { Ready form.now room.old m.ch n }
-    ensures { ValuedOk form.now room.old room.new m (finish_b evaluate (yes_no (is_pair (tree_in form room n))) (state m)) result }
+    ensures { ValuedOk form.now room.old room.new m (finish_b evaluate (yes_no (is_pair (tree_in form.now room.old n))) (state m)) result }
 {
     match store::look_node(room, n) {
         Cell::Pair(_, _) => yes_no(form, room, m, true),
@@ -268,7 +268,7 @@ fn listp(form: &[u8], room: &mut [u8], m: Meter, n: usize) -> Valued
 // `=`
 fn same(form: &[u8], room: &mut [u8], m: Meter, a: usize, b: usize) -> Valued
     requires { Ready form.now room.old m.ch a × Ready form.now room.old m.ch b }
-    ensures { ValuedOk form.now room.old room.new m (finish_b evaluate (same_atom (tree_in form room a) (tree_in form room b)) (state m)) result }
+    ensures { ValuedOk form.now room.old room.new m (finish_b evaluate (same_atom (tree_in form.now room.old a) (tree_in form.now room.old b)) (state m)) result }
 {
     match store::look_node(room, a) {
         Cell::Pair(_, _) => Valued::Refused(Refusal::Fails),
@@ -294,7 +294,7 @@ fn answered(a: Valued) -> Performed
 
 fn perform(form: &[u8], room: &mut [u8], m: Meter, op: Operator, v: Values) -> Performed
     requires { Nodes form.now room.old m.ch v }
-    ensures { PerformedOk form.now room.old room.new m (finish_b evaluate (Operator·perform (op_of op) (args_of (op_of op) (tree_in form room v.a) (tree_in form room v.b) (tree_in form room v.c))) (state m)) result }
+    ensures { PerformedOk form.now room.old room.new m (finish_b evaluate (Operator·perform (op_of op) (args_of (op_of op) (tree_in form.now room.old v.a) (tree_in form.now room.old v.b) (tree_in form.now room.old v.c))) (state m)) result }
 {
     match op {
         Operator::Apply => Performed::Runs(v.a, v.b, m),
@@ -342,7 +342,7 @@ fn with(v: Values, k: usize, n: usize) -> Values
 #[cycle(call_eval_each_eval_node_step)]
 fn eval_each(form: &[u8], room: &mut [u8], m: Meter, list: usize, env: usize) -> Args
     requires { Ready form.now room.old m.ch list × Ready form.now room.old m.ch env }
-    ensures { ArgsOk form.now room.old room.new m (each_value_b evaluate (items (tree_in form room list)) (tree_in form room env) (state m)) result }
+    ensures { ArgsOk form.now room.old room.new m (each_value_b evaluate (items (tree_in form.now room.old list)) (tree_in form.now room.old env) (state m)) result }
 {
     let mut s = m;
     let mut p = list;
@@ -373,7 +373,7 @@ fn eval_each(form: &[u8], room: &mut [u8], m: Meter, list: usize, env: usize) ->
 #[cycle(call_eval_each_eval_node_step)]
 fn call(form: &[u8], room: &mut [u8], m: Meter, op: Operator, list: usize, env: usize) -> Performed
     requires { Ready form.now room.old m.ch list × Ready form.now room.old m.ch env }
-    ensures { PerformedOk form.now room.old room.new m (call_b evaluate (op_of op) (proper_list (tree_in form room list)) (tree_in form room env) (state m)) result }
+    ensures { PerformedOk form.now room.old room.new m (call_b evaluate (op_of op) (proper_list (tree_in form.now room.old list)) (tree_in form.now room.old env) (state m)) result }
 {
     if !accepts(form, room, op, list) {
         return Performed::Refused(Refusal::Fails);
@@ -388,7 +388,7 @@ fn call(form: &[u8], room: &mut [u8], m: Meter, op: Operator, list: usize, env: 
 #[cycle(call_eval_each_eval_node_step)]
 fn step(form: &[u8], room: &mut [u8], m: Meter, e: usize, env: usize) -> Performed
     requires { Ready form.now room.old m.ch e × Ready form.now room.old m.ch env }
-    ensures { PerformedOk form.now room.old room.new m (step_b evaluate (tree_in form room e) (tree_in form room env) (state m)) result }
+    ensures { PerformedOk form.now room.old room.new m (step_b evaluate (tree_in form.now room.old e) (tree_in form.now room.old env) (state m)) result }
 {
     match store::look_node(room, e) {
         Cell::Atom => answered(path_node(form, room, m, e, env)),
@@ -405,7 +405,7 @@ fn step(form: &[u8], room: &mut [u8], m: Meter, e: usize, env: usize) -> Perform
 #[cycle(call_eval_each_eval_node_step)]
 pub fn eval_node(form: &[u8], room: &mut [u8], m: Meter, e: usize, env: usize) -> Valued
     requires { Ready form.now room.old m.ch e × Ready form.now room.old m.ch env }
-    ensures { ValuedOk form.now room.old room.new m (evaluate (tree_in form room e) (tree_in form room env) (state m)) result }
+    ensures { ValuedOk form.now room.old room.new m (evaluate (tree_in form.now room.old e) (tree_in form.now room.old env) (state m)) result }
 {
     let mut t = m;
     let mut p = e;

@@ -16,56 +16,56 @@ use refusals::Refusal;
 use store::{Cell, Charges, Made, ROOM};
 
 // The node read, where the next byte stands, and the charges; or a refusal.
-#[derive(Drop)]
+#[derive(Clone, Copy)]
 pub enum Reading {
     Node(usize, usize, Charges),
     Refused(Refusal),
 }
 
 // A length that a prefix says and where the body begins, or a refusal.
-#[derive(Drop)]
+#[derive(Clone, Copy)]
 pub(crate) enum Length {
     Long(usize, usize),
     Refused(Refusal),
 }
 
 // The node that is whole, how many parts wait for it, and the charges; or a refusal.
-#[derive(Drop)]
+#[derive(Clone, Copy)]
 pub(crate) enum Closed {
     Node(usize, usize, Charges),
     Refused(Refusal),
 }
 
 // How many bytes a tree is written in, where a limit allows them.
-#[derive(Drop)]
+#[derive(Clone, Copy)]
 pub enum Extent {
     Long(usize),
     Over,
 }
 
 // The place after bytes that stand where they are looked for, or that they do not.
-#[derive(Drop)]
+#[derive(Clone, Copy)]
 pub enum Followed {
     To(usize),
     Off,
 }
 
 // The nodes of two forms and the charges after both; or a refusal.
-#[derive(Drop)]
+#[derive(Clone, Copy)]
 pub enum Two {
     Nodes(usize, usize, Charges),
     Refused(Refusal),
 }
 
 // What `read` answers: the units that the form costs.
-#[derive(Drop)]
+#[derive(Clone, Copy)]
 pub enum ReadAnswer {
     Read(usize),
     Refused(Refusal),
 }
 
 // What `write` answers: how many bytes it wrote, and the units that the form costs.
-#[derive(Drop)]
+#[derive(Clone, Copy)]
 pub enum WriteAnswer {
     Written(usize, usize),
     Refused(Refusal),
@@ -322,7 +322,7 @@ fn atom_length(b: &[u8]) -> usize
 // a tree may be far larger than its store: every node looked at takes a byte of the limit.
 pub fn length_node<'a>(form: &'a [u8], room: &'a [u8], n: usize, limit: usize) -> Extent
     requires { Writable form.now room.now n }
-    ensures { result ≡ extent limit (length (write (tree_in form room n))) }
+    ensures { result ≡ extent limit (length (write (tree_in form.now room.now n))) }
 {
     match store::look_node(room, n) {
         Cell::Pair(l, r) => {
@@ -410,7 +410,7 @@ pub fn put_atom(b: &[u8], out: &mut [u8]) -> usize
 // what remains of the output after the left.
 pub fn write_node<'a>(form: &'a [u8], room: &'a [u8], n: usize, out: &mut [u8]) -> usize
     requires { Writable form.now room.now n × (length (write (tree_at form.now room.now n)) ≤ length out.old) }
-    ensures { Wrote (write (tree_in form room n)) result out.old out.new }
+    ensures { Wrote (write (tree_in form.now room.now n)) result out.old out.new }
 {
     match store::look_node(room, n) {
         Cell::Pair(l, r) => {
@@ -454,7 +454,7 @@ fn follow_atom<'a>(form: &'a [u8], b: &'a [u8], at: usize) -> Followed
 // The place after the tree of node n, if it stands written in form from at on. Every node looked at takes a byte of form, or is the last.
 pub fn follow_node<'a>(form: &'a [u8], room: &'a [u8], n: usize, at: usize) -> Followed
     requires { Writable form.now room.now n × (at ≤ length form.now) }
-    ensures { result ≡ followed form.now at (write (tree_in form room n)) }
+    ensures { result ≡ followed form.now at (write (tree_in form.now room.now n)) }
 {
     match store::look_node(room, n) {
         Cell::Pair(l, r) => {
@@ -478,7 +478,7 @@ pub fn follow_node<'a>(form: &'a [u8], room: &'a [u8], n: usize, at: usize) -> F
 // Writes the tree of node n to the front of out where it fits: measured first, so that refusal 14 leaves the output as it came in.
 pub fn deliver_node<'a>(form: &'a [u8], room: &'a [u8], n: usize, out: &mut [u8]) -> Extent
     requires { Writable form.now room.now n }
-    ensures { Delivered (write (tree_in form room n)) out.old out.new result }
+    ensures { Delivered (write (tree_in form.now room.now n)) out.old out.new result }
 {
     match length_node(form, room, n, out.len()) {
         Extent::Over => Extent::Over,
@@ -558,7 +558,7 @@ fn deliver<'a>(
     out: &mut [u8],
 ) -> WriteAnswer
     requires { Writable form.now room.now n }
-    ensures { Delivers write_says (deliver_tree (length out.old) (tree_in form room n) (units ∷ [])) out.old out.new result }
+    ensures { Delivers write_says (deliver_tree (length out.old) (tree_in form.now room.now n) (units ∷ [])) out.old out.new result }
 {
     match deliver_node(form, room, n, out) {
         Extent::Over => WriteAnswer::Refused(Refusal::OutputShort),

@@ -4,7 +4,8 @@ ghost use Rattle.io.specs.Digits.{hex_digit_ascii};
 ghost use Rattle.lines.specs.Hex.{hex_of};
 ghost use Rattle.lines.specs.Text.{line_most, Printed, Cleared, ok_tree, decimal_of, numbers_text, numbers_line, no_number, no_line};
 
-use libc::STDOUT_FILENO;
+// Standard output.
+const STDOUT_FILENO: i32 = 1;
 
 // As many bytes as a line may have: the hex of 32,768 bytes, a word, three numbers, and the line's end.
 const LINE_MOST: usize = 65664;

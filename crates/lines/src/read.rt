@@ -6,10 +6,10 @@ ghost use Rattle.lines.specs.Hex.{digit_of};
 ghost use Rattle.lines.specs.Line.{judged, Took, Passed, Came};
 
 use crate::print::flush;
-use libc::STDIN_FILENO;
+use std::io::{Read, Stdin};
 
 // How a line spells bytes.
-#[derive(Drop)]
+#[derive(Clone, Copy)]
 pub enum Spelling {
     // Two lower-case hex digits for each.
     Hex,
@@ -17,7 +17,7 @@ pub enum Spelling {
     Raw,
 }
 
-#[derive(Drop)]
+#[derive(Clone, Copy)]
 pub enum Got {
     // An even count of lower-case hex digits, none for an empty line; or any line that is raw.
     Form,
@@ -29,7 +29,7 @@ pub enum Got {
 
 // buf[at..len] was read and is not used yet; text[..put] waits to be written; and what the last line was: form[..n] has its bytes, and
 // form[..first] those of the first of two.
-#[derive(Drop)]
+#[derive(Clone, Copy)]
 pub struct Lines {
     pub at: usize,
     pub len: usize,
@@ -41,7 +41,7 @@ pub struct Lines {
 
 // A line so far: form[..n] has the bytes that it spelt, half is the digit that waits for its second (16: none), bad says that a byte was
 // met that is no digit.
-#[derive(Drop)]
+#[derive(Clone, Copy)]
 struct Line {
     n: usize,
     half: u8,
@@ -49,7 +49,7 @@ struct Line {
 }
 
 // The line after some bytes, the place after these, and whether they ended it.
-#[derive(Drop)]
+#[derive(Clone, Copy)]
 struct Part {
     line: Line,
     at: usize,
@@ -175,12 +175,16 @@ fn within(n: usize, buf: &[u8]) -> usize
 }
 
 // Writes the text that waits, and then reads: whoever waits for an outcome before sending more gets it.
-fn refill(buf: &mut [u8], text: &[u8], put: usize) -> usize
+// A read that fails ends the input.
+fn refill(input: Stdin, buf: &mut [u8], text: &[u8], put: usize) -> usize
     ensures { IsPrefixLen result buf.new }
 {
     flush(text, put);
-    let came = libc::read(STDIN_FILENO, buf);
-    io::count(came, buf)
+    let mut from = input;
+    match from.read(buf) {
+        Ok(came) => came,
+        Err(_) => 0,
+    }
 }
 
 // Where a program starts: nothing waits.
@@ -231,7 +235,14 @@ fn last(l: Line, begun: bool) -> Lines
 }
 
 // The next line: form[..n] has its bytes, or the first of them where form is too short for all.
-pub fn next_line(how: Spelling, buf: &mut [u8], form: &mut [u8], text: &[u8], s: Lines) -> Lines
+pub fn next_line(
+    input: Stdin,
+    how: Spelling,
+    buf: &mut [u8],
+    form: &mut [u8],
+    text: &[u8],
+    s: Lines,
+) -> Lines
     ensures { Came form.new s result }
 {
     let mut line = Line {
@@ -258,7 +269,7 @@ pub fn next_line(how: Spelling, buf: &mut [u8], form: &mut [u8], text: &[u8], s:
                 got: verdict(line),
             };
         }
-        len = refill(buf, text, put);
+        len = refill(input, buf, text, put);
         put = 0;
         at = 0;
         if len == 0 {
@@ -304,11 +315,18 @@ fn both(a: Lines, b: Lines) -> Lines
 
 // The next two lines: forms[..first] has the first one's bytes, and forms[first..n] the second's. A second line that is missing is no
 // line.
-pub fn next_two(how: Spelling, buf: &mut [u8], forms: &mut [u8], text: &[u8], s: Lines) -> Lines
+pub fn next_two(
+    input: Stdin,
+    how: Spelling,
+    buf: &mut [u8],
+    forms: &mut [u8],
+    text: &[u8],
+    s: Lines,
+) -> Lines
     ensures { Came forms.new s result }
 {
-    let a = next_line(how, buf, forms, text, s);
+    let a = next_line(input, how, buf, forms, text, s);
     let n = a.n;
-    let b = next_line(how, buf, &mut forms[n..], text, a);
+    let b = next_line(input, how, buf, &mut forms[n..], text, a);
     both(a, b)
 }

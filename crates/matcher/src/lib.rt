@@ -18,7 +18,7 @@ use refusals::Refusal;
 use store::{Charges, ROOM};
 
 // How many names were bound, and where each part that was written ends; a part that is not there has no bytes.
-#[derive(Drop)]
+#[derive(Clone, Copy)]
 pub struct Parts {
     pub count: usize,
     pub name_1: usize,
@@ -27,7 +27,7 @@ pub struct Parts {
     pub node_2: usize,
 }
 
-#[derive(Drop)]
+#[derive(Clone, Copy)]
 pub enum MatchAnswer {
     Matched(Parts),
     NoMatch,
@@ -44,7 +44,7 @@ pub struct Matching {
 }
 
 // What the two forms answer.
-#[derive(Drop)]
+#[derive(Clone, Copy)]
 pub(crate) enum Said {
     Bound(Bindings, Charges),
     NoMatch,
@@ -60,14 +60,14 @@ pub(crate) struct Worked {
 }
 
 // Where two trees end that are written one after the other, where a limit allows them.
-#[derive(Drop)]
+#[derive(Clone, Copy)]
 pub(crate) enum Ends {
     At(usize, usize),
     Over,
 }
 
 // Where all parts end, where a limit allows them.
-#[derive(Drop)]
+#[derive(Clone, Copy)]
 pub(crate) enum Placed {
     All(Parts),
     Over,
@@ -88,7 +88,7 @@ fn unplaced(said: Said) -> Worked
 // The match of two nodes, and the place of its failure.
 fn matched(forms: &[u8], room: &mut [u8], ch: Charges, p: usize, s: usize) -> Worked
     requires { Ready forms.now room.old ch p × Ready forms.now room.old ch s }
-    ensures { Shows forms.now room.new (delivering (meaning.match_sexp (tree_in forms room p) (tree_in forms room s) [])) result }
+    ensures { Shows forms.now room.new (delivering (meaning.match_sexp (tree_in forms.now room.old p) (tree_in forms.now room.old s) [])) result }
 {
     match pattern::matched_node(forms, room, ch, p, s) {
         Match::Matched(ks) => unplaced(Said::Bound(ks, ch)),
@@ -116,7 +116,7 @@ fn work(forms: &[u8], room: &mut [u8], first: usize) -> Worked
 // Where the node's tree ends that is written from at on.
 fn end_node<'a>(forms: &'a [u8], room: &'a [u8], n: usize, at: usize, limit: usize) -> Extent
     requires { Writable forms.now room.now n × (at ≤ limit) }
-    ensures { result ≡ extent limit (at + length (write (tree_in forms room n))) }
+    ensures { result ≡ extent limit (at + length (write (tree_in forms.now room.now n))) }
 {
     match form::length_node(forms, room, n, limit - at) {
         Extent::Long(k) => Extent::Long(at + k),
@@ -133,7 +133,7 @@ fn end_both<'a>(
     limit: usize,
 ) -> Ends
     requires { Writable forms.now room.now name × Writable forms.now room.now node × (at ≤ limit) }
-    ensures { result ≡ ends limit at (length (write (tree_in forms room name))) (length (write (tree_in forms room node))) }
+    ensures { result ≡ ends limit at (length (write (tree_in forms.now room.now name))) (length (write (tree_in forms.now room.now node))) }
 {
     match end_node(forms, room, name, at, limit) {
         Extent::Over => Ends::Over,
@@ -192,7 +192,7 @@ fn write_both<'a>(
     out: &mut [u8],
 ) -> usize
     requires { Writable forms.now room.now name × Writable forms.now room.now node × (length (write (tree_at forms.now room.now name)) + length (write (tree_at forms.now room.now node)) ≤ length out.old) }
-    ensures { Wrote (write (tree_in forms room name) ++ write (tree_in forms room node)) result out.old out.new }
+    ensures { Wrote (write (tree_in forms.now room.now name) ++ write (tree_in forms.now room.now node)) result out.old out.new }
 {
     let at = form::write_node(forms, room, name, out);
     let k = form::write_node(forms, room, node, &mut out[at..]);

@@ -17,7 +17,7 @@ use store::{Cell, Charges};
 
 // Nodes of the pattern and of the expression that stand against each other, what is bound before them, and the turn that led to them, as
 // a path: 2 is left, 3 is right, and 1 is none.
-#[derive(Drop)]
+#[derive(Clone, Copy)]
 pub(crate) struct Part {
     pub(crate) pattern: usize,
     pub(crate) node: usize,
@@ -25,7 +25,7 @@ pub(crate) struct Part {
     pub(crate) turn: u8,
 }
 
-#[derive(Drop)]
+#[derive(Clone, Copy)]
 pub(crate) enum Step {
     Down(Part),
     Here,
@@ -101,7 +101,7 @@ fn in_64(path: Number) -> [u8; 64]
 // The place at which the pattern p, which does not match s, first disagrees with it; zero where it is over 511 turns from the root.
 pub(crate) fn place_node(form: &[u8], room: &mut [u8], ch: Charges, p: usize, s: usize) -> [u8; 64]
     requires { Ready form.now room.old ch p × Ready form.now room.old ch s × (meaning.no ≡ meaning.verdict (meaning.match_sexp (tree_at form.now room.old p) (tree_at form.now room.old s) [])) }
-    ensures { result ≡ meaning.place_bytes (meaning.place (meaning.match_sexp (tree_in form room p) (tree_in form room s) [])) }
+    ensures { result ≡ meaning.place_bytes (meaning.place (meaning.match_sexp (tree_in form.now room.old p) (tree_in form.now room.old s) [])) }
 {
     let one = [1u8; 1];
     let mut path = paths::unsigned(&one);

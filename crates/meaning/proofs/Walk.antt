@@ -123,7 +123,7 @@ module _ {P Q : Over} (K : KeptOver P Q) where
   drop_kept : {hs : List (Tree → M P.S Tree)} {ks : List (Tree → M Q.S Tree)} → AllKept hs ks → (j : ℕ) → AllKept (drop j hs) (drop j ks)
   drop_kept a zero = a
   drop_kept no_rules (suc j) = no_rules
-  drop_kept (and_rule h hs) (suc j) = drop_kept hs j
+  drop_kept (and_rule {h = h'} {k = k} {hs = hs'} {ks = ks} h hs) (suc j) = drop_kept {hs = hs'} hs j
 
   at_kept : {hs : List (Tree → M P.S Tree)} {ks : List (Tree → M Q.S Tree)} → AllKept hs ks → (j : ℕ) (r : Tree) → K.rel (get_or hs j give r) (get_or ks j give r)
   at_kept no_rules j r = K.by_give r

@@ -12,14 +12,14 @@ use sexp::Compared;
 use store::Charges;
 
 // What the memo says of a call: the work after it, or nothing.
-#[derive(Drop)]
+#[derive(Clone, Copy)]
 pub enum Answer {
     Known(Work),
     Unknown,
 }
 
 // Whether two trees were found to be the same, and how many looks are left.
-#[derive(Drop)]
+#[derive(Clone, Copy)]
 pub(crate) struct Verdict {
     pub same: bool,
     pub left: usize,

@@ -2,7 +2,7 @@
 // believe stands in specs/, what follows from it in proofs/.
 
 // Where an expression stands: the head of a list read as code, elsewhere in code, or data.
-#[derive(Drop)]
+#[derive(Clone, Copy)]
 pub enum Place {
     Operator,
     Code,
@@ -10,7 +10,7 @@ pub enum Place {
 }
 
 // What a byte does outside quotes: separate, open or close a list, begin a quote, or belong to a word.
-#[derive(Drop)]
+#[derive(Clone, Copy)]
 pub enum Kind {
     Blank,
     Opens,

@@ -14,7 +14,7 @@ use run_state::{Notes, Outcome, Record, Work};
 use store::{Charges, Made, ROOM};
 
 // What an answer reports: how many bytes were written, and what the run took.
-#[derive(Drop)]
+#[derive(Clone, Copy)]
 pub struct Report {
     pub length: usize,
     pub passes: usize,
@@ -22,14 +22,14 @@ pub struct Report {
     pub mark: bool,
 }
 
-#[derive(Drop)]
+#[derive(Clone, Copy)]
 pub enum Answer {
     Answered(Report),
     Refused(Refusal),
 }
 
 // The finished tree's node and what the run took, or a refusal.
-#[derive(Drop)]
+#[derive(Clone, Copy)]
 pub enum Finished {
     Node(usize, Work),
     Refused(Refusal),

@@ -17,7 +17,7 @@ by_fours_turned n (a ∷ b ∷ []) = refl
 by_fours_turned n (a ∷ b ∷ c ∷ []) = refl
 by_fours_turned n (a ∷ b ∷ c ∷ d ∷ bs) =
     let e : n * 2 ^ 32 + (a + 2 ^ 8 * b + 2 ^ 16 * c + 2 ^ 24 * d) ≡ (((n * 256 + d) * 256 + c) * 256 + b) * 256 + a = omega arith in
-    by_fours_turned _ bs ∙ ap (λ m. number_from m (fours_turned bs)) e
+    by_fours_turned (n * 2 ^ 32 + (a + 2 ^ 8 * b + 2 ^ 16 * c + 2 ^ 24 * d)) bs ∙ ap (λ m. number_from m (fours_turned bs)) e
 
 pub bigint_turned : (bs : List ℕ) → bigint_from_bytes bs ≡ number (turned bs)
 unfolding bigint_from_bytes number turned

@@ -12,7 +12,7 @@ ghost use Rattle.pattern.specs.Cases.{takes_any};
 use store::{Cell, Charges};
 
 // The names bound so far, as the nodes of their atoms in the pattern, and what each is bound to.
-#[derive(Drop)]
+#[derive(Clone, Copy)]
 pub struct Bindings {
     pub count: usize,
     pub name_1: usize,
@@ -21,14 +21,14 @@ pub struct Bindings {
     pub node_2: usize,
 }
 
-#[derive(Drop)]
+#[derive(Clone, Copy)]
 pub enum Match {
     Matched(Bindings),
     NoMatch,
     TooManyNames,
 }
 
-#[derive(Drop)]
+#[derive(Clone, Copy)]
 pub enum Got {
     At(usize),
     Nothing,
@@ -111,7 +111,7 @@ fn unify_bindings(
     node: usize,
 ) -> Match
     requires { Bound form.now room.old ch ks × Named form.now room.old ch name × Ready form.now room.old ch node }
-    ensures { MatchOk form.now room.old room.new ch result (meaning.unify_bindings (bindings_at form.now room.old ks) (bytes_at form.now room.old name) (tree_in form room node)) }
+    ensures { MatchOk form.now room.old room.new ch result (meaning.unify_bindings (bindings_at form.now room.old ks) (bytes_at form.now room.old name) (tree_in form.now room.old node)) }
 {
     match get(form, room, ch, ks, store::atom_bytes(form, room, name)) {
         Got::At(u) => {
@@ -130,7 +130,7 @@ fn unify_bindings(
 // (: . name) takes any pair, where name is not ':'.
 pub fn takes_any<'a>(form: &'a [u8], room: &'a [u8], a: usize, b: usize) -> bool
     requires { Room room.now a × Room room.now b }
-    ensures { result ≡ takes_any (tree_in form room a) (tree_in form room b) }
+    ensures { result ≡ takes_any (tree_in form.now room.now a) (tree_in form.now room.now b) }
 {
     if sexp::is_byte_node(form, room, a, b':') {
         match store::look_node(room, b) {
@@ -144,7 +144,7 @@ pub fn takes_any<'a>(form: &'a [u8], room: &'a [u8], a: usize, b: usize) -> bool
 
 fn both_bytes<'a>(form: &'a [u8], room: &'a [u8], x: usize, y: usize, k: u8) -> bool
     requires { Room room.now x × Room room.now y }
-    ensures { result ≡ (is_byte_tree k (tree_in form room x) && is_byte_tree k (tree_in form room y)) }
+    ensures { result ≡ (is_byte_tree k (tree_in form.now room.now x) && is_byte_tree k (tree_in form.now room.now y)) }
 {
     if sexp::is_byte_node(form, room, x, k) {
         sexp::is_byte_node(form, room, y, k)
@@ -163,7 +163,7 @@ fn match_atom<'a>(
     ks: Bindings,
 ) -> Match
     requires { Named form.now room.now ch p × Ready form.now room.now ch s × Bound form.now room.now ch ks }
-    ensures { MatchOk form.now room.now room.now ch result (meaning.match_sexp (tree_in form room p) (tree_in form room s) (bindings_at form.now room.now ks)) }
+    ensures { MatchOk form.now room.now room.now ch result (meaning.match_sexp (tree_in form.now room.now p) (tree_in form.now room.now s) (bindings_at form.now room.now ks)) }
 {
     match store::look_node(room, s) {
         Cell::Pair(_, _) => Match::NoMatch,
@@ -188,7 +188,7 @@ fn at_atom(
     ks: Bindings,
 ) -> Match
     requires { Ready form.now room.old ch a × Ready form.now room.old ch b × Named form.now room.old ch s × Bound form.now room.old ch ks }
-    ensures { MatchOk form.now room.old room.new ch result (meaning.match_sexp (pair (tree_in form room a) (tree_in form room b)) (tree_in form room s) (bindings_at form.now room.old ks)) }
+    ensures { MatchOk form.now room.old room.new ch result (meaning.match_sexp (pair (tree_in form.now room.old a) (tree_in form.now room.old b)) (tree_in form.now room.old s) (bindings_at form.now room.old ks)) }
 {
     match store::look_node(room, b) {
         Cell::Pair(_, _) => Match::NoMatch,
@@ -229,7 +229,7 @@ pub fn match_node(
     ks: Bindings,
 ) -> Match
     requires { Ready form.now room.old ch p × Ready form.now room.old ch s × Bound form.now room.old ch ks }
-    ensures { MatchOk form.now room.old room.new ch result (meaning.match_sexp (tree_in form room p) (tree_in form room s) (bindings_at form.now room.old ks)) }
+    ensures { MatchOk form.now room.old room.new ch result (meaning.match_sexp (tree_in form.now room.old p) (tree_in form.now room.old s) (bindings_at form.now room.old ks)) }
 {
     match store::look_node(room, p) {
         Cell::Atom => match_atom(form, room, ch, p, s, ks),
@@ -253,7 +253,7 @@ pub fn match_node(
 // `match_sexp` with no bindings known.
 pub fn matched_node(form: &[u8], room: &mut [u8], ch: Charges, p: usize, s: usize) -> Match
     requires { Ready form.now room.old ch p × Ready form.now room.old ch s }
-    ensures { MatchOk form.now room.old room.new ch result (meaning.match_sexp (tree_in form room p) (tree_in form room s) []) }
+    ensures { MatchOk form.now room.old room.new ch result (meaning.match_sexp (tree_in form.now room.old p) (tree_in form.now room.old s) []) }
 {
     match_node(form, room, ch, p, s, no_bindings())
 }
@@ -268,7 +268,7 @@ pub fn got_node<'a>(
     name: &'a [u8],
 ) -> Got
     requires { Ready form.now room.old ch p × Ready form.now room.old ch s }
-    ensures { GotOk form.now room.old room.new ch result (meaning.got name.now (meaning.match_sexp (tree_in form room p) (tree_in form room s) [])) }
+    ensures { GotOk form.now room.old room.new ch result (meaning.got name.now (meaning.match_sexp (tree_in form.now room.old p) (tree_in form.now room.old s) [])) }
 {
     match matched_node(form, room, ch, p, s) {
         Match::Matched(ks) => get(form, room, ch, ks, name),

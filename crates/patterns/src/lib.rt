@@ -12,7 +12,7 @@ ghost use Rattle.patterns.specs.Patterns.{BothLaid, OthersLaid, PatternsLaid, pa
 use store::{Charges, Laid};
 
 // The nodes of the patterns, each named by the form that it is for.
-#[derive(Drop)]
+#[derive(Clone, Copy)]
 pub struct Patterns {
     pub cons: usize,
     pub first_cons: usize,
@@ -25,14 +25,14 @@ pub struct Patterns {
 }
 
 // The patterns, and the charges after them.
-#[derive(Drop)]
+#[derive(Clone, Copy)]
 pub struct Prepared {
     pub patterns: Patterns,
     pub ch: Charges,
 }
 
 // A node x, and the nodes of (f x) and (r x).
-#[derive(Drop)]
+#[derive(Clone, Copy)]
 pub struct Both {
     pub inner: usize,
     pub first: usize,
@@ -41,7 +41,7 @@ pub struct Both {
 }
 
 // The nodes of the patterns that stand alone.
-#[derive(Drop)]
+#[derive(Clone, Copy)]
 pub struct Others {
     pub apply: usize,
     pub quote_nil: usize,
@@ -61,7 +61,7 @@ fn lay_byte(form: &[u8], room: &mut [u8], ch: Charges, b: u8) -> Laid
 // (b . x)
 fn lay_headed(form: &[u8], room: &mut [u8], ch: Charges, b: u8, x: usize) -> Laid
     requires { Ready form.now room.old ch x × (ch.free + 21 ≤ free_limit) }
-    ensures { LaidOk form.now room.old room.new ch 21 (pair (byte b) (tree_in form room x)) result }
+    ensures { LaidOk form.now room.old room.new ch 21 (pair (byte b) (tree_in form.now room.old x)) result }
 {
     let o = lay_byte(form, room, ch, b);
     let c = o.ch;
@@ -81,7 +81,7 @@ fn lay_name<'a>(form: &'a [u8], room: &mut [u8], ch: Charges, x: u8, name: &'a [
 // (b x)
 fn lay_call(form: &[u8], room: &mut [u8], ch: Charges, b: u8, x: usize) -> Laid
     requires { Ready form.now room.old ch x × (ch.free + 36 ≤ free_limit) }
-    ensures { LaidOk form.now room.old room.new ch 36 (pair (byte b) (pair (tree_in form room x) nil)) result }
+    ensures { LaidOk form.now room.old room.new ch 36 (pair (byte b) (pair (tree_in form.now room.old x) nil)) result }
 {
     let t = store::lay_pair(form, room, ch, x, 0);
     let c = t.ch;
@@ -91,7 +91,7 @@ fn lay_call(form: &[u8], room: &mut [u8], ch: Charges, b: u8, x: usize) -> Laid
 // (b x y)
 fn lay_call_2(form: &[u8], room: &mut [u8], ch: Charges, b: u8, x: usize, y: usize) -> Laid
     requires { Ready form.now room.old ch x × Ready form.now room.old ch y × (ch.free + 51 ≤ free_limit) }
-    ensures { LaidOk form.now room.old room.new ch 51 (pair (byte b) (pair (tree_in form room x) (pair (tree_in form room y) nil))) result }
+    ensures { LaidOk form.now room.old room.new ch 51 (pair (byte b) (pair (tree_in form.now room.old x) (pair (tree_in form.now room.old y) nil))) result }
 {
     let t = store::lay_pair(form, room, ch, y, 0);
     let c = t.ch;
@@ -141,7 +141,7 @@ fn lay_apply_nil(form: &[u8], room: &mut [u8], ch: Charges) -> Laid
 // (f x) and (r x)
 fn lay_both(form: &[u8], room: &mut [u8], ch: Charges, x: usize) -> Both
     requires { Ready form.now room.old ch x × (ch.free + 72 ≤ free_limit) }
-    ensures { BothLaid form.now room.old room.new ch 72 (tree_in form room x) result }
+    ensures { BothLaid form.now room.old room.new ch 72 (tree_in form.now room.old x) result }
 {
     let f = lay_call(form, room, ch, 5, x);
     let c = f.ch;

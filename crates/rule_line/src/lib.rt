@@ -78,7 +78,7 @@ fn print_changed<'a>(
     at: usize,
 ) -> usize
     requires { Writable form.now room.now m }
-    ensures { Printed (line_of (written (length out.old) (tree_in form room m) (spent_of w))) text.old text.new at result }
+    ensures { Printed (line_of (written (length out.old) (tree_in form.now room.now m) (spent_of w))) text.old text.new at result }
 {
     match form::deliver_node(form, room, m, out) {
         Extent::Over => lines::print_no(text, at, refusals::number_of(Refusal::OutputShort)),

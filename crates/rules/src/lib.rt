@@ -24,7 +24,7 @@ use store::{Cell, Charges};
 
 pub fn cons_optimizer(form: &[u8], room: &mut [u8], p: Patterns, w: Work, n: usize) -> Work
     requires { Ready form.now room.old w.ch n × Patterned form.now room.old w.ch p }
-    ensures { Did form.now room.old room.new w (tree_in form room n) (give (cons_optimizer (tree_in form room n)) (spent_of w)) result }
+    ensures { Did form.now room.old room.new w (tree_in form.now room.old n) (give (cons_optimizer (tree_in form.now room.old n)) (spent_of w)) result }
 {
     let ch = w.ch;
     match pattern::got_node(form, room, ch, p.first_cons, n, b"first") {
@@ -41,7 +41,7 @@ pub fn cons_optimizer(form: &[u8], room: &mut [u8], p: Patterns, w: Work, n: usi
 // A pair headed by the byte 1.
 pub fn is_quote_node<'a>(form: &'a [u8], room: &'a [u8], n: usize) -> bool
     requires { Room room.now n }
-    ensures { result ≡ is_quote (tree_in form room n) }
+    ensures { result ≡ is_quote (tree_in form.now room.now n) }
 {
     match store::look_node(room, n) {
         Cell::Atom => false,
@@ -52,7 +52,7 @@ pub fn is_quote_node<'a>(form: &'a [u8], room: &'a [u8], n: usize) -> bool
 // The value under nil, quoted.
 fn quoted_value(form: &[u8], room: &mut [u8], w: Work, n: usize) -> Work
     requires { Ready form.now room.old w.ch n × (is_quote (tree_at form.now room.old n) ≡ false) }
-    ensures { Did form.now room.old room.new w (tree_in form room n) (worked_out (tree_in form room n) (spent_of w)) result }
+    ensures { Did form.now room.old room.new w (tree_in form.now room.old n) (worked_out (tree_in form.now room.old n) (spent_of w)) result }
 {
     let ch = w.ch;
     let m = Meter { steps: 0, ch: ch };
@@ -67,7 +67,7 @@ fn quoted_value(form: &[u8], room: &mut [u8], w: Work, n: usize) -> Work
 
 pub fn constant_optimizer(form: &[u8], room: &mut [u8], w: Work, n: usize) -> Work
     requires { Ready form.now room.old w.ch n }
-    ensures { Did form.now room.old room.new w (tree_in form room n) (constant_optimizer (tree_in form room n) (spent_of w)) result }
+    ensures { Did form.now room.old room.new w (tree_in form.now room.old n) (constant_optimizer (tree_in form.now room.old n) (spent_of w)) result }
 {
     let ch = w.ch;
     if is_quote_node(form, room, n) {
@@ -85,7 +85,7 @@ pub fn constant_optimizer(form: &[u8], room: &mut [u8], w: Work, n: usize) -> Wo
 
 // ---- 3. `cons_q_a_optimizer`: (a (q . S) 1) gives S
 
-#[derive(Drop)]
+#[derive(Clone, Copy)]
 pub enum Applied {
     Call(usize, usize),
     Other,
@@ -106,7 +106,7 @@ fn both_got(s: Got, a: Got) -> Applied
 // The S and the ARGS of (a (q . S) ARGS).
 pub fn applied_of(form: &[u8], room: &mut [u8], p: Patterns, ch: Charges, n: usize) -> Applied
     requires { Ready form.now room.old ch n × Patterned form.now room.old ch p }
-    ensures { AppliedOk form.now room.old room.new ch result (applied_of (tree_in form room n)) }
+    ensures { AppliedOk form.now room.old room.new ch result (applied_of (tree_in form.now room.old n)) }
 {
     match pattern::matched_node(form, room, ch, p.apply, n) {
         Match::Matched(ks) => {
@@ -121,7 +121,7 @@ pub fn applied_of(form: &[u8], room: &mut [u8], p: Patterns, ch: Charges, n: usi
 
 pub fn cons_q_a_optimizer(form: &[u8], room: &mut [u8], p: Patterns, w: Work, n: usize) -> Work
     requires { Ready form.now room.old w.ch n × Patterned form.now room.old w.ch p }
-    ensures { Did form.now room.old room.new w (tree_in form room n) (give (cons_q_a_optimizer (tree_in form room n)) (spent_of w)) result }
+    ensures { Did form.now room.old room.new w (tree_in form.now room.old n) (give (cons_q_a_optimizer (tree_in form.now room.old n)) (spent_of w)) result }
 {
     let ch = w.ch;
     match applied_of(form, room, p, ch, n) {
@@ -141,7 +141,7 @@ pub fn cons_q_a_optimizer(form: &[u8], room: &mut [u8], p: Patterns, w: Work, n:
 // The atom a of n is a path, and goes on by q. It is refused if it is too long, before it is charged.
 fn path_node(form: &[u8], room: &mut [u8], w: Work, n: usize, a: usize, q: u8) -> Work
     requires { PathAsks form.now room.old w.ch n × Named form.now room.old w.ch a × (1 ≤ q) }
-    ensures { Did form.now room.old room.new w (tree_in form room n) (path_to (bytes_of (compose_paths (node_path_index (bytes_at form.now room.old a)) q)) (misread (bytes_at form.now room.old a)) (spent_of w)) result }
+    ensures { Did form.now room.old room.new w (tree_in form.now room.old n) (path_to (bytes_of (compose_paths (node_path_index (bytes_at form.now room.old a)) q)) (misread (bytes_at form.now room.old a)) (spent_of w)) result }
 {
     let l = paths::lengthen(store::atom_bytes(form, room, a), q);
     let p = l.path;
@@ -159,7 +159,7 @@ fn path_node(form: &[u8], room: &mut [u8], w: Work, n: usize, a: usize, q: u8) -
 // What became of the name `atom`: only an atom is a path.
 fn longer_node(form: &[u8], room: &mut [u8], w: Work, n: usize, g: Got, q: u8) -> Work
     requires { LongerAsks form.now room.old w.ch n g × (1 ≤ q) }
-    ensures { Did form.now room.old room.new w (tree_in form room n) (longer (tree_in form room n) (got_at form.now room.old g) q (spent_of w)) result }
+    ensures { Did form.now room.old room.new w (tree_in form.now room.old n) (longer (tree_in form.now room.old n) (got_at form.now room.old g) q (spent_of w)) result }
 {
     match g {
         Got::Nothing => run_state::with(w, Outcome::Same),
@@ -173,7 +173,7 @@ fn longer_node(form: &[u8], room: &mut [u8], w: Work, n: usize, g: Got, q: u8) -
 // (r N)
 fn rest_path(form: &[u8], room: &mut [u8], p: Patterns, w: Work, n: usize) -> Work
     requires { Ready form.now room.old w.ch n × Patterned form.now room.old w.ch p }
-    ensures { Did form.now room.old room.new w (tree_in form room n) (longer (tree_in form room n) (got atom_name (match_sexp (atom_pattern 6) (tree_in form room n) [])) 3 (spent_of w)) result }
+    ensures { Did form.now room.old room.new w (tree_in form.now room.old n) (longer (tree_in form.now room.old n) (got atom_name (match_sexp (atom_pattern 6) (tree_in form.now room.old n) [])) 3 (spent_of w)) result }
 {
     let ch = w.ch;
     let g = pattern::got_node(form, room, ch, p.rest_atom, n, b"atom");
@@ -182,7 +182,7 @@ fn rest_path(form: &[u8], room: &mut [u8], p: Patterns, w: Work, n: usize) -> Wo
 
 pub fn path_optimizer(form: &[u8], room: &mut [u8], p: Patterns, w: Work, n: usize) -> Work
     requires { Ready form.now room.old w.ch n × Patterned form.now room.old w.ch p }
-    ensures { Did form.now room.old room.new w (tree_in form room n) (path_optimizer (tree_in form room n) (spent_of w)) result }
+    ensures { Did form.now room.old room.new w (tree_in form.now room.old n) (path_optimizer (tree_in form.now room.old n) (spent_of w)) result }
 {
     let ch = w.ch;
     match pattern::matched_node(form, room, ch, p.first_atom, n) {
@@ -199,7 +199,7 @@ pub fn path_optimizer(form: &[u8], room: &mut [u8], p: Patterns, w: Work, n: usi
 
 pub fn quote_null_optimizer(form: &[u8], room: &mut [u8], p: Patterns, w: Work, n: usize) -> Work
     requires { Ready form.now room.old w.ch n × Patterned form.now room.old w.ch p }
-    ensures { Did form.now room.old room.new w (tree_in form room n) (give (quote_null_optimizer (tree_in form room n)) (spent_of w)) result }
+    ensures { Did form.now room.old room.new w (tree_in form.now room.old n) (give (quote_null_optimizer (tree_in form.now room.old n)) (spent_of w)) result }
 {
     let ch = w.ch;
     match pattern::matched_node(form, room, ch, p.quote_nil, n) {
@@ -211,7 +211,7 @@ pub fn quote_null_optimizer(form: &[u8], room: &mut [u8], p: Patterns, w: Work, 
 
 pub fn apply_null_optimizer(form: &[u8], room: &mut [u8], p: Patterns, w: Work, n: usize) -> Work
     requires { Ready form.now room.old w.ch n × Patterned form.now room.old w.ch p }
-    ensures { Did form.now room.old room.new w (tree_in form room n) (give (apply_null_optimizer (tree_in form room n)) (spent_of w)) result }
+    ensures { Did form.now room.old room.new w (tree_in form.now room.old n) (give (apply_null_optimizer (tree_in form.now room.old n)) (spent_of w)) result }
 {
     let ch = w.ch;
     match pattern::matched_node(form, room, ch, p.apply_nil, n) {

@@ -7,7 +7,7 @@ use refusals::Refusal;
 use store::{Charges, Made};
 
 // What a piece of work said: nothing changed, the node that it changed to, or the refusal that stopped it.
-#[derive(Drop)]
+#[derive(Clone, Copy)]
 pub enum Outcome {
     Same,
     Changed(usize),
@@ -15,7 +15,7 @@ pub enum Outcome {
 }
 
 // What a run has spent, whether it is marked, and what the last piece of work said.
-#[derive(Drop)]
+#[derive(Clone, Copy)]
 pub struct Work {
     pub ch: Charges,
     pub passes: usize,
@@ -25,7 +25,7 @@ pub struct Work {
 
 // A finished expression. `print` is what 16 bits hold of its fingerprint, which stands whole in the expression's node. Where the work gave
 // the tree back, the result is the expression's own node. The height is a count of nested calls that is known to be enough, not the least one.
-#[derive(Drop)]
+#[derive(Clone, Copy)]
 pub struct Entry {
     pub expr: u16,
     pub result: u16,
@@ -39,7 +39,7 @@ pub struct Entry {
 pub type Record = [u16; 6];
 
 // What a run notes of the passes that rules end.
-#[derive(Drop)]
+#[derive(Clone, Copy)]
 pub enum Notes {
     // Nothing. Only then may the memo answer: a hit skips what would be noted.
     Nothing,
@@ -48,7 +48,7 @@ pub enum Notes {
 }
 
 // What a run has spent, and how many records of the row are the memo's entries.
-#[derive(Drop)]
+#[derive(Clone, Copy)]
 pub struct State {
     pub w: Work,
     pub used: usize,

@@ -10,7 +10,7 @@ use refusals::Refusal;
 use totals::{Column, Savings};
 
 // Where the list stands: the lines, the report so far, and whether it is at its end.
-#[derive(Drop)]
+#[derive(Clone, Copy)]
 pub(crate) struct Listed {
     pub lines: Lines,
     pub savings: Savings,

@@ -7,7 +7,7 @@ ghost use Rattle.serve.specs.Reply.{reply, Lent};
 
 use lines::{Got, Lines, Spelling};
 
-#[derive(Drop)]
+#[derive(Clone, Copy)]
 pub enum Program {
     // A form: what the optimiser makes of it.
     Optimise,

@@ -25,7 +25,7 @@ pub fn is_byte(b: &[u8], k: u8) -> bool
 // An atom of the one byte k.
 pub fn is_byte_node<'a>(form: &'a [u8], room: &'a [u8], n: usize, k: u8) -> bool
     requires { Room room.now n }
-    ensures { result ≡ is_byte_tree k (tree_in form room n) }
+    ensures { result ≡ is_byte_tree k (tree_in form.now room.now n) }
 {
     match store::look_node(room, n) {
         Cell::Pair(_, _) => false,
@@ -36,7 +36,7 @@ pub fn is_byte_node<'a>(form: &'a [u8], room: &'a [u8], n: usize, k: u8) -> bool
 // Rust's `non_nil`.
 pub fn non_nil_node<'a>(form: &'a [u8], room: &'a [u8], n: usize) -> bool
     requires { Room room.now n }
-    ensures { result ≡ non_nil (tree_in form room n) }
+    ensures { result ≡ non_nil (tree_in form.now room.now n) }
 {
     match store::look_node(room, n) {
         Cell::Pair(_, _) => true,
@@ -47,7 +47,7 @@ pub fn non_nil_node<'a>(form: &'a [u8], room: &'a [u8], n: usize) -> bool
 // Nil: the empty atom, at whatever node.
 pub fn is_nil_node<'a>(form: &'a [u8], room: &'a [u8], n: usize) -> bool
     requires { Room room.now n }
-    ensures { result ≡ is_nil (tree_in form room n) }
+    ensures { result ≡ is_nil (tree_in form.now room.now n) }
 {
     !non_nil_node(form, room, n)
 }
@@ -57,7 +57,7 @@ pub fn is_nil_node<'a>(form: &'a [u8], room: &'a [u8], n: usize) -> bool
 // Whether Rust's `proper_list` gives a list: the last right part is nil.
 pub fn proper_list_node<'a>(form: &'a [u8], room: &'a [u8], n: usize) -> bool
     requires { Room room.now n }
-    ensures { result ≡ is_proper (tree_in form room n) }
+    ensures { result ≡ is_proper (tree_in form.now room.now n) }
 {
     let mut m = n;
     loop {
@@ -88,7 +88,7 @@ pub fn enlist_node<'a>(
     tail: usize,
 ) -> Made
     requires { Ready form.now room.old ch tail × Items room.old ch items.now k }
-    ensures { MadeOk form.now room.old room.new ch (pair_cost * k) (enlist_onto (map (tree_in form room) (take k items.now)) (tree_in form room tail)) result }
+    ensures { MadeOk form.now room.old room.new ch (pair_cost * k) (enlist_onto (map (tree_in form.now room.old) (take k items.now)) (tree_in form.now room.old tail)) result }
 {
     let mut c = ch;
     let mut i = k;
@@ -111,7 +111,7 @@ pub fn enlist_node<'a>(
 // helpers.rs, `quote`: (1 . n).
 pub fn quote_node(form: &[u8], room: &mut [u8], ch: Charges, n: usize) -> Made
     requires { Ready form.now room.old ch n }
-    ensures { MadeOk form.now room.old room.new ch (5 + pair_cost) (quote (tree_in form room n)) result }
+    ensures { MadeOk form.now room.old room.new ch (5 + pair_cost) (quote (tree_in form.now room.old n)) result }
 {
     let one: [u8; 1] = [1];
     match store::atom_node(form, room, ch, &one) {
@@ -123,7 +123,7 @@ pub fn quote_node(form: &[u8], room: &mut [u8], ch: Charges, n: usize) -> Made
 // ---- equality
 
 // What two records tell, or the parts that are left to compare.
-#[derive(Drop)]
+#[derive(Clone, Copy)]
 pub enum Compared {
     Told(bool),
     Parts(usize, usize, usize, usize),
@@ -203,7 +203,7 @@ fn join(form: &[u8], room: &mut [u8], ch: Charges, a: usize, b: usize)
 
 fn prints_differ<'a>(form: &'a [u8], room: &'a [u8], ch: Charges, a: usize, b: usize) -> bool
     requires { Ready form.now room.now ch a × Ready form.now room.now ch b }
-    ensures { result ≡ not (eqb (print_of (tree_in form room a)) (print_of (tree_in form room b))) }
+    ensures { result ≡ not (eqb (print_of (tree_in form.now room.now a)) (print_of (tree_in form.now room.now b))) }
 {
     store::print_node(form, room, ch, a) != store::print_node(form, room, ch, b)
 }
@@ -212,7 +212,7 @@ fn prints_differ<'a>(form: &'a [u8], room: &'a [u8], ch: Charges, a: usize, b: u
 #[cycle(equal_node_equal_records)]
 pub fn equal_node(form: &[u8], room: &mut [u8], ch: Charges, x: usize, y: usize) -> bool
     requires { Ready form.now room.old ch x × Ready form.now room.old ch y }
-    ensures { Answered form.now room.old room.new ch result (equal_to (tree_in form room x) (tree_in form room y)) }
+    ensures { Answered form.now room.old room.new ch result (equal_to (tree_in form.now room.old x) (tree_in form.now room.old y)) }
 {
     let a = canon(form, room, ch, x);
     let b = canon(form, room, ch, y);
@@ -226,7 +226,7 @@ pub fn equal_node(form: &[u8], room: &mut [u8], ch: Charges, x: usize, y: usize)
 #[cycle(equal_node_equal_records)]
 fn equal_records(form: &[u8], room: &mut [u8], ch: Charges, a: usize, b: usize) -> bool
     requires { Ready form.now room.old ch a × Ready form.now room.old ch b }
-    ensures { Answered form.now room.old room.new ch result (equal_to (tree_in form room a) (tree_in form room b)) }
+    ensures { Answered form.now room.old room.new ch result (equal_to (tree_in form.now room.old a) (tree_in form.now room.old b)) }
 {
     match compare_records(form, room, a, b) {
         Compared::Told(u) => u,

@@ -1,7 +1,5 @@
 -- The tree that a node stands for, and a tree's fingerprint.
 use Rattle.std.specs.Prelude.{ℕ, zero, suc, ◌+◌, ◌%◌, ◌^◌, List, [], ◌∷◌}
-use Rattle.std.specs.Borrow.{Bor}
-use denote.Triple.Both.{Both}
 use Rattle.meaning.specs.Tree.{Tree, atom, pair}
 use Rattle.store.specs.declared.Cell.{Cell}
 use Rattle.store.specs.declared.Cell.TheVariants.{Pair, Atom}
@@ -20,9 +18,9 @@ tree_to (suc k) f s n = grow (cell_at s n) (bytes_at f s n) (tree_to k f s)
 unfoldable pub tree_at : List ℕ → List ℕ → ℕ → Tree
 tree_at f s n = tree_to (suc n) f s n
 
--- in an `ensures`: the tree at a node as the function begins, from the parameters `form` and `room`
-abbrev pub tree_in : {X Y : Type 0} → Both (Bor (List ℕ)) X → Both (Bor (List ℕ)) Y → ℕ → Tree
-tree_in form room = tree_at form.entry.now room.entry.now
+-- in a clause: the tree at a node, from the bytes of form and room
+abbrev pub tree_in : List ℕ → List ℕ → ℕ → Tree
+tree_in form room = tree_at form room
 
 -- "a 64-bit fingerprint whose sums wrap on purpose": the left one doubled, so that order matters
 unfoldable pub mixed : ℕ → ℕ → ℕ

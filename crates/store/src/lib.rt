@@ -15,14 +15,14 @@ use refusals::Refusal;
 // How many bytes of room a caller has to lend.
 pub const ROOM: usize = 65536;
 
-#[derive(Drop)]
+#[derive(Clone, Copy)]
 pub enum Cell {
     Pair(usize, usize),
     Atom,
 }
 
 // Units spent in the run, bytes laid free of units, where the records end and where the made bytes begin.
-#[derive(Drop)]
+#[derive(Clone, Copy)]
 pub struct Charges {
     pub units: usize,
     pub free: usize,
@@ -30,21 +30,21 @@ pub struct Charges {
     pub top: usize,
 }
 
-#[derive(Drop)]
+#[derive(Clone, Copy)]
 pub enum Charged {
     Go(Charges),
     Stop(Refusal),
 }
 
 // What a maker answers: a node and the charges after it, or a refusal.
-#[derive(Drop)]
+#[derive(Clone, Copy)]
 pub enum Made {
     Node(usize, Charges),
     Refused(Refusal),
 }
 
 // What a free maker answers.
-#[derive(Drop)]
+#[derive(Clone, Copy)]
 pub struct Laid {
     pub node: usize,
     pub ch: Charges,
@@ -183,7 +183,7 @@ fn print_bytes(b: &[u8]) -> u64
 // A node's fingerprint: kept in a pair's record, counted for an atom.
 pub fn print_node<'a>(form: &'a [u8], room: &'a [u8], ch: Charges, n: usize) -> u64
     requires { Ready form.now room.now ch n }
-    ensures { result ≡ print_of (tree_in form room n) }
+    ensures { result ≡ print_of (tree_in form.now room.now n) }
 {
     match look_node(room, n) {
         Cell::Pair(_, _) => num8(room, n + 5),
@@ -239,7 +239,7 @@ fn put_pair(room: &mut [u8], n: usize, l: usize, r: usize, p: u64)
 // A pair, with its fingerprint from its parts' and itself as its same node.
 fn append_pair(form: &[u8], room: &mut [u8], ch: Charges, l: usize, r: usize) -> Charges
     requires { Ready form.now room.old ch l × Ready form.now room.old ch r × Paid ch 15 }
-    ensures { Put form.now room.old room.new ch result (pair (tree_in form room l) (tree_in form room r)) }
+    ensures { Put form.now room.old room.new ch result (pair (tree_in form.now room.old l) (tree_in form.now room.old r)) }
 {
     let a = print_node(form, room, ch, l);
     let b = print_node(form, room, ch, r);
@@ -311,7 +311,7 @@ fn append_atom<'a>(form: &'a [u8], room: &mut [u8], ch: Charges, b: &'a [u8]) ->
 // The pair of l and r, for 8 units.
 pub fn pair_node(form: &[u8], room: &mut [u8], ch: Charges, l: usize, r: usize) -> Made
     requires { Ready form.now room.old ch l × Ready form.now room.old ch r }
-    ensures { MadeOk form.now room.old room.new ch pair_cost (pair (tree_in form room l) (tree_in form room r)) result }
+    ensures { MadeOk form.now room.old room.new ch pair_cost (pair (tree_in form.now room.old l) (tree_in form.now room.old r)) result }
 {
     match charge(ch, 8) {
         Charged::Go(c) => {
@@ -376,7 +376,7 @@ fn give_free(ch: Charges, k: usize) -> Charges
 
 pub fn lay_pair(form: &[u8], room: &mut [u8], ch: Charges, l: usize, r: usize) -> Laid
     requires { Ready form.now room.old ch l × Ready form.now room.old ch r × (ch.free + 15 ≤ free_limit) }
-    ensures { LaidOk form.now room.old room.new ch 15 (pair (tree_in form room l) (tree_in form room r)) result }
+    ensures { LaidOk form.now room.old room.new ch 15 (pair (tree_in form.now room.old l) (tree_in form.now room.old r)) result }
 {
     let c = give_free(ch, 15);
     let n = c.end;
@@ -467,7 +467,7 @@ fn put_note_tail(room: &mut [u8], n: usize, b: bool)
 // Remembers an answer, and gives it.
 pub fn remember(form: &[u8], room: &mut [u8], ch: Charges, n: usize, b: bool) -> bool
     requires { Ready form.now room.old ch n × (b ≡ seems_constant (tree_at form.now room.old n)) }
-    ensures { Answered form.now room.old room.new ch result (seems_constant (tree_in form room n)) }
+    ensures { Answered form.now room.old room.new ch result (seems_constant (tree_in form.now room.old n)) }
 {
     put_note(room, n, b);
     b
@@ -475,7 +475,7 @@ pub fn remember(form: &[u8], room: &mut [u8], ch: Charges, n: usize, b: bool) ->
 
 pub fn remember_tail(form: &[u8], room: &mut [u8], ch: Charges, n: usize, b: bool) -> bool
     requires { Ready form.now room.old ch n × (b ≡ seems_constant_tail (tree_at form.now room.old n)) }
-    ensures { Answered form.now room.old room.new ch result (seems_constant_tail (tree_in form room n)) }
+    ensures { Answered form.now room.old room.new ch result (seems_constant_tail (tree_in form.now room.old n)) }
 {
     put_note_tail(room, n, b);
     b

@@ -18,14 +18,14 @@ use refusals::Refusal;
 use store::{Cell, Charges, Made};
 
 // The node of the substituted tree, the charges after it, and whether a low atom was read.
-#[derive(Drop)]
+#[derive(Clone, Copy)]
 pub struct Substituted {
     pub ch: Charges,
     pub low: bool,
     pub node: usize,
 }
 
-#[derive(Drop)]
+#[derive(Clone, Copy)]
 pub enum Sub {
     Done(Substituted),
     Refused(Refusal),
@@ -36,7 +36,7 @@ pub enum Sub {
 // (o args)
 fn call_node(form: &[u8], room: &mut [u8], ch: Charges, o: u8, args: usize) -> Made
     requires { Ready form.now room.old ch args }
-    ensures { MadeOk form.now room.old room.new ch (5 + (pair_cost + pair_cost)) (pair (byte o) (pair (tree_in form room args) nil)) result }
+    ensures { MadeOk form.now room.old room.new ch (5 + (pair_cost + pair_cost)) (pair (byte o) (pair (tree_in form.now room.old args) nil)) result }
 {
     let b = [o; 1];
     match store::atom_node(form, room, ch, &b) {
@@ -58,7 +58,7 @@ fn part_node(
     right: bool,
 ) -> Got
     requires { Ready form.now room.old ch args × Shows form.now room.old ch cons cons_pattern }
-    ensures { GotOk form.now room.old room.new ch result (got_part right (tree_in form room args)) }
+    ensures { GotOk form.now room.old room.new ch result (got_part right (tree_in form.now room.old args)) }
 {
     if right {
         pattern::got_node(form, room, ch, cons, args, b"rest")
@@ -83,7 +83,7 @@ fn cons_node(
     right: bool,
 ) -> Made
     requires { Ready form.now room.old ch args × Shows form.now room.old ch cons cons_pattern }
-    ensures { MadeOk form.now room.old room.new ch (part_cost (tree_in form room args)) (cons_part right (tree_in form room args)) result }
+    ensures { MadeOk form.now room.old room.new ch (part_cost (tree_in form.now room.old args)) (cons_part right (tree_in form.now room.old args)) result }
 {
     match part_node(form, room, cons, ch, args, right) {
         Got::At(n) => Made::Node(n, ch),
@@ -119,7 +119,7 @@ fn path_from_args(
     args: usize,
 ) -> Made
     requires { Named form.now room.old ch n × Ready form.now room.old ch args × Shows form.now room.old ch cons cons_pattern }
-    ensures { MadeOk form.now room.old room.new ch (path_cost (sub_turns (bytes_at form.now room.old n)) (tree_in form room args)) (path_from_args (sub_turns (bytes_at form.now room.old n)) (tree_in form room args)) result }
+    ensures { MadeOk form.now room.old room.new ch (path_cost (sub_turns (bytes_at form.now room.old n)) (tree_in form.now room.old args)) (path_from_args (sub_turns (bytes_at form.now room.old n)) (tree_in form.now room.old args)) result }
 {
     let count = count_turns(form, room, ch, n);
     let mut c = ch;
@@ -173,7 +173,7 @@ fn low_node<'a>(form: &'a [u8], room: &'a [u8], n: usize) -> bool
 // An atom of the body: read as a path.
 fn sub_atom(form: &[u8], room: &mut [u8], cons: usize, ch: Charges, n: usize, args: usize) -> Sub
     requires { Named form.now room.old ch n × Ready form.now room.old ch args × Shows form.now room.old ch cons cons_pattern }
-    ensures { SubOk form.now room.old room.new ch (sub_cost (tree_in form room n) (tree_in form room args)) (sub_args (tree_in form room n) (tree_in form room args)) (reads_low (tree_in form room n)) result }
+    ensures { SubOk form.now room.old room.new ch (sub_cost (tree_in form.now room.old n) (tree_in form.now room.old args)) (sub_args (tree_in form.now room.old n) (tree_in form.now room.old args)) (reads_low (tree_in form.now room.old n)) result }
 {
     let low = low_node(form, room, n);
     made(low, path_from_args(form, room, cons, ch, n, args))
@@ -183,7 +183,7 @@ fn sub_atom(form: &[u8], room: &mut [u8], cons: usize, ch: Charges, n: usize, ar
 #[cycle(sub_body_sub_each_sub_head_sub_list)]
 fn sub_head(form: &[u8], room: &mut [u8], cons: usize, ch: Charges, f: usize, args: usize) -> Sub
     requires { Ready form.now room.old ch f × Ready form.now room.old ch args × Shows form.now room.old ch cons cons_pattern }
-    ensures { SubOk form.now room.old room.new ch (head_cost (tree_in form room f) (tree_in form room args)) (head_tree (tree_in form room f) (tree_in form room args)) (head_low (tree_in form room f)) result }
+    ensures { SubOk form.now room.old room.new ch (head_cost (tree_in form.now room.old f) (tree_in form.now room.old args)) (head_tree (tree_in form.now room.old f) (tree_in form.now room.old args)) (head_low (tree_in form.now room.old f)) result }
 {
     match store::look_node(room, f) {
         Cell::Atom => Sub::Done(Substituted {
@@ -208,7 +208,7 @@ fn sub_list(
     args: usize,
 ) -> Sub
     requires { Ready form.now room.old ch first × Ready form.now room.old ch rest × Ready form.now room.old ch args × Shows form.now room.old ch cons cons_pattern }
-    ensures { SubOk form.now room.old room.new ch (list_cost (tree_in form room rest) (tree_in form room args)) (list_tree (tree_in form room first) (tree_in form room rest) (tree_in form room args)) (list_low low (tree_in form room rest)) result }
+    ensures { SubOk form.now room.old room.new ch (list_cost (tree_in form.now room.old rest) (tree_in form.now room.old args)) (list_tree (tree_in form.now room.old first) (tree_in form.now room.old rest) (tree_in form.now room.old args)) (list_low low (tree_in form.now room.old rest)) result }
 {
     if sexp::proper_list_node(form, room, rest) {
         match sub_each(form, room, cons, ch, rest, args) {
@@ -232,7 +232,7 @@ fn sub_list(
 #[cycle(sub_body_sub_each_sub_head_sub_list)]
 fn sub_each(form: &[u8], room: &mut [u8], cons: usize, ch: Charges, list: usize, args: usize) -> Sub
     requires { Ready form.now room.old ch list × Ready form.now room.old ch args × Shows form.now room.old ch cons cons_pattern }
-    ensures { SubOk form.now room.old room.new ch (sub_each_cost (tree_in form room list) (tree_in form room args)) (sub_each (tree_in form room list) (tree_in form room args)) (reads_low_each (tree_in form room list)) result }
+    ensures { SubOk form.now room.old room.new ch (sub_each_cost (tree_in form.now room.old list) (tree_in form.now room.old args)) (sub_each (tree_in form.now room.old list) (tree_in form.now room.old args)) (reads_low_each (tree_in form.now room.old list)) result }
 {
     match store::look_node(room, list) {
         Cell::Atom => Sub::Done(Substituted {
@@ -262,7 +262,7 @@ fn sub_each(form: &[u8], room: &mut [u8], cons: usize, ch: Charges, list: usize,
 #[cycle(sub_body_sub_each_sub_head_sub_list)]
 fn sub_body(form: &[u8], room: &mut [u8], cons: usize, ch: Charges, body: usize, args: usize) -> Sub
     requires { Ready form.now room.old ch body × Ready form.now room.old ch args × Shows form.now room.old ch cons cons_pattern }
-    ensures { SubOk form.now room.old room.new ch (sub_cost (tree_in form room body) (tree_in form room args)) (sub_args (tree_in form room body) (tree_in form room args)) (reads_low (tree_in form room body)) result }
+    ensures { SubOk form.now room.old room.new ch (sub_cost (tree_in form.now room.old body) (tree_in form.now room.old args)) (sub_args (tree_in form.now room.old body) (tree_in form.now room.old args)) (reads_low (tree_in form.now room.old body)) result }
 {
     match store::look_node(room, body) {
         Cell::Atom => sub_atom(form, room, cons, ch, body, args),
@@ -295,7 +295,7 @@ pub fn sub_args(
     args: usize,
 ) -> Sub
     requires { Ready form.now room.old ch body × Ready form.now room.old ch args × Patterned form.now room.old ch p }
-    ensures { SubOk form.now room.old room.new ch (sub_cost (tree_in form room body) (tree_in form room args)) (sub_args (tree_in form room body) (tree_in form room args)) (reads_low (tree_in form room body)) result }
+    ensures { SubOk form.now room.old room.new ch (sub_cost (tree_in form.now room.old body) (tree_in form.now room.old args)) (sub_args (tree_in form.now room.old body) (tree_in form.now room.old args)) (reads_low (tree_in form.now room.old body)) result }
 {
     sub_body(form, room, p.cons, ch, body, args)
 }

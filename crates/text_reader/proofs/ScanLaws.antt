@@ -129,11 +129,11 @@ module _ {text : List ℕ} {at i : ℕ} (s : Skipping text at i) where
   skip_turn {b} h f n = record {
     after = omega (arith, s.after);
     within = omega arith;
-    is = s.is ∙ first_blank text i h (blank_is (kind_of (get_or text i 0)) (sym f ∙ tests.not_false b n));
+    is = s.is ∙ first_blank text i h (blank_is (kind_of (get_or text i 0)) (sym f ∙ tests.not-false b n));
   }
 
   pub skip_found : {b : Bool} → i < length text → b ≡ is_blank (kind_of (get_or text i 0)) → not b ≡ true → Skipped text at i
-  skip_found {b} h f n = record { after = s.after; within = s.within; is = s.is; stops = λ l. sym f ∙ tests.not_true b n }
+  skip_found {b} h f n = record { after = s.after; within = s.within; is = s.is; stops = λ l. sym f ∙ tests.not-true b n }
 
   pub skip_all : length text ≤ i → Skipped text at i
   skip_all h = record { after = s.after; within = s.within; is = s.is; stops = λ l. absurd (omega arith) }
@@ -166,7 +166,7 @@ module _ {text : List ℕ} {at i : ℕ} (s : Going text at i) where
     is = λ w.
         s.is w
         ∙ ap (λ (t : List ℕ). spots_from t i (w ++ between text at i)) (here text i h)
-        ∙ at_plain (get_or text i 0) (drop (i + 1) text) i (w ++ between text at i) (plain_is (kind_of (get_or text i 0)) (sym f ∙ tests.not_false b n))
+        ∙ at_plain (get_or text i 0) (drop (i + 1) text) i (w ++ between text at i) (plain_is (kind_of (get_or text i 0)) (sym f ∙ tests.not-false b n))
         ∙ ap (spots_from (drop (i + 1) text) (i + 1)) (append_assoc w (between text at i) (get_or text i 0 ∷ []) ∙ ap (w ++◌) (sym (between_more text at i s.after h)));
   }
 
@@ -177,7 +177,7 @@ module _ {text : List ℕ} {at i : ℕ} (s : Going text at i) where
     is = λ w.
         s.is w
         ∙ ap (λ (t : List ℕ). spots_from t i (w ++ between text at i)) (here text i h)
-        ∙ ends_word (get_or text i 0) (drop (i + 1) text) i (w ++ between text at i) (kind_of (get_or text i 0)) refl (sym f ∙ tests.not_true b n)
+        ∙ ends_word (get_or text i 0) (drop (i + 1) text) i (w ++ between text at i) (kind_of (get_or text i 0)) refl (sym f ∙ tests.not-true b n)
         ∙ ap (λ (t : List ℕ). ending (w ++ between text at i) i (spots_from t i [])) (sym (here text i h));
   }
 

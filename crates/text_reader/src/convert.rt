@@ -10,14 +10,14 @@ use crate::scan::next_place;
 use refusals::Refusal;
 
 // How many bytes the form has, or a refusal.
-#[derive(Drop)]
+#[derive(Clone, Copy)]
 pub enum Converted {
     Form(usize),
     Refused(Refusal),
 }
 
 // Where a text stops that does not parse; or that it parses, or is too long to be looked at.
-#[derive(Drop)]
+#[derive(Clone, Copy)]
 pub enum Fault {
     At(usize),
     Nowhere,
@@ -25,7 +25,7 @@ pub enum Fault {
 }
 
 // How the machine ends: nothing more is wanted, with a form; or the next token from a place on may not stand there.
-#[derive(Drop)]
+#[derive(Clone, Copy)]
 pub(crate) enum Ending {
     Whole(Grown),
     Stops(usize),

@@ -4,7 +4,7 @@ ghost use Rattle.meaning.specs.Form.{write_length, write_atom};
 ghost use Rattle.text_reader.specs.Forms.{Emits, prefixed, pair_byte};
 
 // How many bytes stand in the form; over: more would have to.
-#[derive(Drop)]
+#[derive(Clone, Copy)]
 pub(crate) struct Grown {
     pub len: usize,
     pub over: bool,

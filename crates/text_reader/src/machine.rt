@@ -14,7 +14,7 @@ use notation::Place;
 
 // What is wanted next: the whole expression; a list's first part, at a place; a part after it; the part after a dot; the bracket after
 // that; or nothing.
-#[derive(Drop)]
+#[derive(Clone, Copy)]
 pub(crate) enum Want {
     Whole,
     First(Place),
@@ -25,7 +25,7 @@ pub(crate) enum Want {
 }
 
 // Between two tokens: where the next stands, what is wanted, how many lists are open, the form so far.
-#[derive(Drop)]
+#[derive(Clone, Copy)]
 pub(crate) struct Reading {
     pub at: usize,
     pub want: Want,
@@ -34,14 +34,14 @@ pub(crate) struct Reading {
 }
 
 // After a token.
-#[derive(Drop)]
+#[derive(Clone, Copy)]
 pub(crate) enum Step {
     On(Reading),
     NoParse,
 }
 
 // After a token or the text's end.
-#[derive(Drop)]
+#[derive(Clone, Copy)]
 pub(crate) enum Turn {
     Goes(Reading),
     Done(Grown),
@@ -49,14 +49,14 @@ pub(crate) enum Turn {
 }
 
 // What a bracket opens: what is wanted in it, what is wanted after it (as a number), and whether it is the left part of a pair.
-#[derive(Drop)]
+#[derive(Clone, Copy)]
 pub(crate) enum Opening {
     List(Want, u8, bool),
     No,
 }
 
 // What is wanted after an atom, and whether it is the left part of a pair.
-#[derive(Drop)]
+#[derive(Clone, Copy)]
 pub(crate) enum Wanted {
     Atom(Want, bool),
     No,

@@ -8,7 +8,7 @@ ghost use Rattle.text_reader.specs.Tokens.{is_plain, is_blank, spots_at, TokenOk
 use notation::Kind;
 
 // The next token: where it stands, and where what follows it begins.
-#[derive(Drop)]
+#[derive(Clone, Copy)]
 pub(crate) enum Token {
     End,
     Open(usize),
@@ -20,7 +20,7 @@ pub(crate) enum Token {
 }
 
 // Where a quote is closed; or where a byte stands that may not stand in it; or that it is never closed.
-#[derive(Drop)]
+#[derive(Clone, Copy)]
 pub(crate) enum Closed {
     At(usize),
     Bad(usize),

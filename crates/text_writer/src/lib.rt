@@ -50,7 +50,7 @@ fn is_one(b: &[u8]) -> bool
 // Whether a node is the atom 1.
 fn one_at<'a>(form: &'a [u8], room: &'a [u8], n: usize) -> bool
     requires { Room room.now n }
-    ensures { result ≡ is_one (tree_in form room n) }
+    ensures { result ≡ is_one (tree_in form.now room.now n) }
 {
     match store::look_node(room, n) {
         Cell::Pair(_, _) => false,
@@ -61,7 +61,7 @@ fn one_at<'a>(form: &'a [u8], room: &'a [u8], n: usize) -> bool
 // The place of what follows node n, which stands at p.
 fn after<'a>(form: &'a [u8], room: &'a [u8], n: usize, p: Place) -> Place
     requires { Room room.now n }
-    ensures { result ≡ after p (tree_in form room n) }
+    ensures { result ≡ after p (tree_in form.now room.now n) }
 {
     match p {
         Place::Operator => {
@@ -246,7 +246,7 @@ pub fn length_text<'a>(
     limit: usize,
 ) -> Extent
     requires { Writable form.now room.now n }
-    ensures { result ≡ extent limit (length (part_text rest (tree_in form room n) p)) }
+    ensures { result ≡ extent limit (length (part_text rest (tree_in form.now room.now n) p)) }
 {
     match store::look_node(room, n) {
         Cell::Pair(l, r) => {
@@ -287,7 +287,7 @@ pub fn write_text<'a>(
     out: &mut [u8],
 ) -> usize
     requires { Writable form.now room.now n × (length (part_text rest (tree_at form.now room.now n) p) ≤ length out.old) }
-    ensures { Wrote (part_text rest (tree_in form room n) p) result out.old out.new }
+    ensures { Wrote (part_text rest (tree_in form.now room.now n) p) result out.old out.new }
 {
     match store::look_node(room, n) {
         Cell::Pair(l, r) => {
@@ -307,7 +307,7 @@ pub fn write_text<'a>(
 // Writes the text of node n to the front of out where it fits: measured first, so that refusal 14 leaves the output as it came in.
 pub fn deliver_text<'a>(form: &'a [u8], room: &'a [u8], n: usize, out: &mut [u8]) -> Extent
     requires { Writable form.now room.now n }
-    ensures { Delivered (text_of (tree_in form room n)) out.old out.new result }
+    ensures { Delivered (text_of (tree_in form.now room.now n)) out.old out.new result }
 {
     match length_text(form, room, n, Place::Code, false, out.len()) {
         Extent::Over => Extent::Over,

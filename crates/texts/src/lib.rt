@@ -25,7 +25,7 @@ use text_reader::{Converted, Fault, fault_of_text, form_of_text};
 use text_writer::deliver_text;
 
 // Where a text stops that does not parse, as a count of the bytes before it; or that it parses; or a refusal.
-#[derive(Drop)]
+#[derive(Clone, Copy)]
 pub enum FaultAnswer {
     At(usize),
     NoFault,
@@ -33,7 +33,7 @@ pub enum FaultAnswer {
 }
 
 // How many bytes the first form takes, and both; or a refusal.
-#[derive(Drop)]
+#[derive(Clone, Copy)]
 pub(crate) enum Forms {
     Both(usize, usize),
     Refused(Refusal),
@@ -94,7 +94,7 @@ fn deliver_units<'a>(
     out: &mut [u8],
 ) -> WriteAnswer
     requires { Writable form.now room.now n }
-    ensures { Delivers write_says (deliver_text (length out.old) (tree_in form room n) (units ∷ [])) out.old out.new result }
+    ensures { Delivers write_says (deliver_text (length out.old) (tree_in form.now room.now n) (units ∷ [])) out.old out.new result }
 {
     match deliver_text(form, room, n, out) {
         Extent::Over => WriteAnswer::Refused(Refusal::OutputShort),
@@ -226,7 +226,7 @@ fn deliver_value<'a>(
     out: &mut [u8],
 ) -> EvalAnswer
     requires { Writable forms.now room.now q }
-    ensures { Delivers value-says (delivered_value (length out.old) (tree_in forms room q) (state m)) out.old out.new result }
+    ensures { Delivers value-says (delivered_value (length out.old) (tree_in forms.now room.now q) (state m)) out.old out.new result }
 {
     let c = m.ch;
     match deliver_text(forms, room, q, out) {

@@ -29,7 +29,7 @@ pub struct Savings {
 }
 
 // The column of a form. Full is none: the report has no room for it.
-#[derive(Drop)]
+#[derive(Clone, Copy)]
 pub enum Column {
     Answered,
     Refused(Refusal),
@@ -37,7 +37,7 @@ pub enum Column {
 }
 
 // The report after a form, and the form's column.
-#[derive(Drop)]
+#[derive(Clone, Copy)]
 pub struct Added {
     pub savings: Savings,
     pub column: Column,
@@ -161,7 +161,7 @@ fn greater(a: u64, b: u64) -> u64
 }
 
 // The numbers of an answered form.
-#[derive(Drop)]
+#[derive(Clone, Copy)]
 pub(crate) struct Numbers {
     pub before: usize,
     pub after: usize,

@@ -7,7 +7,7 @@ ghost use Rattle.trace_bytes.specs.Bytes.{two_at, is_whole, TakenOk, put_at, cou
 use refusals::Refusal;
 
 // Where the form of a trace ends; or a refusal.
-#[derive(Drop)]
+#[derive(Clone, Copy)]
 pub enum Taken {
     Form(usize),
     Refused(Refusal),

@@ -1,0 +1,10 @@
+-- finish: one line a need; the lemmas are in Parts.
+use borrow.Author.Rules.{rules}
+use Rattle.driver_parts.proofs.Parts as parts
+use Rattle.driver_parts.proofs.finish.Goals as goal
+
+pub returns-then-moved : goal.returns-then-moved
+returns-then-moved c = search parts.finish_moved
+
+pub returns : goal.returns
+returns c = search parts.finish_still

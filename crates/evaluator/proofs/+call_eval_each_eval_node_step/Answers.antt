@@ -1,0 +1,111 @@
+-- The cycle: the steps left fall at every expression. One law for each call and each return.
+use Prim.Native.Nat.{ℕ, ◌+◌, ◌-◌, ◌*◌, ◌<◌}
+use native.Mathlib.Omega.{arith}
+use borrow.Author.Rules.{rules}
+use Rattle.meaning.specs.Evaluate.{evaluate}
+use Rattle.store.specs.Nodes.{tree_at}
+use Rattle.store.proofs.Ready.{room}
+use Rattle.evaluator.specs.Values.{state, Asks}
+use Rattle.evaluator.proofs.Outcomes.{asks_now}
+use Rattle.evaluator.proofs.Each as each
+use Rattle.evaluator.proofs.Cycle as cycle
+use Rattle.evaluator.proofs.+call_eval_each_eval_node_step.Goals as goal
+
+pub call-accepts-requires : goal.call-accepts-requires
+call-accepts-requires t c = search room
+
+pub call-returns-then-not-accepts : goal.call-returns-then-not-accepts
+call-returns-then-not-accepts t c = search cycle.call_refused
+
+pub call-eval_each-requires : goal.call-eval_each-requires
+call-eval_each-requires t c = (omega arith, search rules)
+
+pub call-perform-requires : goal.call-perform-requires
+call-perform-requires t c = search cycle.call_nodes
+
+pub call-returns-in-Refused : goal.call-returns-in-Refused
+call-returns-in-Refused t c = search cycle.call_stopped
+
+pub call-returns-in-All : goal.call-returns-in-All
+call-returns-in-All t c = search cycle.call_performs
+
+pub eval_each-loop-e-init : goal.eval_each-loop-e-init
+eval_each-loop-e-init t c = search each.each_starts
+
+pub eval_each-look_node-requires : goal.eval_each-look_node-requires
+eval_each-look_node-requires t c = search each.each_room
+
+pub eval_each-shape_of-room-in-Atom : goal.eval_each-shape_of-room-in-Atom
+eval_each-shape_of-room-in-Atom t c = search each.each_length
+
+pub eval_each-returns-in-Atom : goal.eval_each-returns-in-Atom
+eval_each-returns-in-Atom t c = search each.each_ends
+
+pub eval_each-eval_node-requires : goal.eval_each-eval_node-requires
+eval_each-eval_node-requires t c = (search each.each_down, (search each.each_element, search each.each_env))
+
+pub eval_each-shape_of-room-in-Refused : goal.eval_each-shape_of-room-in-Refused
+eval_each-shape_of-room-in-Refused t c = search each.each_length
+
+pub eval_each-returns-in-Refused : goal.eval_each-returns-in-Refused
+eval_each-returns-in-Refused t c = search each.each_refused
+
+pub eval_each-loop-e-smaller : goal.eval_each-loop-e-smaller
+eval_each-loop-e-smaller t c = search each.each_falls
+
+pub eval_each-loop-e-preserved : goal.eval_each-loop-e-preserved
+eval_each-loop-e-preserved t c = search each.each_again
+
+pub eval_node-loop-t-init : goal.eval_node-loop-t-init
+eval_node-loop-t-init t c = search asks_now
+
+pub eval_node-shape_of-room-then-t-ge4096 : goal.eval_node-shape_of-room-then-t-ge4096
+eval_node-shape_of-room-then-t-ge4096 t c = search cycle.node_length
+
+pub eval_node-returns-then-t-ge4096 : goal.eval_node-returns-then-t-ge4096
+eval_node-returns-then-t-ge4096 t c = search cycle.node_out
+
+pub eval_node-step-requires : goal.eval_node-step-requires
+eval_node-step-requires t c = (search cycle.node_down, search rules)
+
+pub eval_node-shape_of-room-in-Done : goal.eval_node-shape_of-room-in-Done
+eval_node-shape_of-room-in-Done t c = search cycle.node_length
+
+pub eval_node-returns-in-Done : goal.eval_node-returns-in-Done
+eval_node-returns-in-Done t c = search cycle.node_value
+
+pub eval_node-shape_of-room-in-Refused : goal.eval_node-shape_of-room-in-Refused
+eval_node-shape_of-room-in-Refused t c = search cycle.node_length
+
+pub eval_node-returns-in-Refused : goal.eval_node-returns-in-Refused
+eval_node-returns-in-Refused t c = search cycle.node_refused
+
+pub eval_node-loop-t-smaller : goal.eval_node-loop-t-smaller
+eval_node-loop-t-smaller t c = search cycle.node_falls
+
+pub eval_node-loop-t-preserved : goal.eval_node-loop-t-preserved
+eval_node-loop-t-preserved t c = search cycle.node_again
+
+pub step-look_node-requires : goal.step-look_node-requires
+step-look_node-requires t c = search room
+
+pub step-path_node-requires : goal.step-path_node-requires
+step-path_node-requires t c = (search rules, search rules, search cycle.step_atom)
+
+pub step-head_node-requires : goal.step-head_node-requires
+step-head_node-requires t c = search cycle.step_room
+
+pub step-call-requires : goal.step-call-requires
+step-call-requires t c = (omega arith, (search cycle.step_list, search rules))
+
+pub step-returns-in-Atom : goal.step-returns-in-Atom
+step-returns-in-Atom t c = search cycle.step_path
+
+pub step-returns-in-Quote : goal.step-returns-in-Quote
+step-returns-in-Quote t c = search cycle.step_quote
+
+pub step-returns-in-Call : goal.step-returns-in-Call
+step-returns-in-Call t c = search cycle.step_call
+
+pub step-returns-in-Other : goal.step-returns-in-Other
+step-returns-in-Other t c = search cycle.step_other

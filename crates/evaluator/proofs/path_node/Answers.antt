@@ -1,0 +1,33 @@
+-- path_node: an answer for each need; what carries weight stands in the laws.
+use Prim.Native.Nat.{◌-◌}
+use Rattle.evaluator.proofs.Walk as walk
+use Rattle.store.proofs.Ready.{room}
+use borrow.Author.Rules.{rules}
+use Rattle.evaluator.proofs.path_node.Goals as goal
+
+pub atom_bytes-b-requires : goal.atom_bytes-b-requires
+atom_bytes-b-requires c = search room
+
+pub returns-then-is_zero : goal.returns-then-is_zero
+returns-then-is_zero c = search walk.path_zero
+
+pub turn_count-count-requires : goal.turn_count-count-requires
+turn_count-count-requires c = search walk.path_short
+
+pub loop-i-init : goal.loop-i-init
+loop-i-init c = search walk.walk_starts
+
+pub look_node-requires : goal.look_node-requires
+look_node-requires c = search walk.walk_room
+
+pub returns-in-Atom : goal.returns-in-Atom
+returns-in-Atom c = search walk.walk_fails
+
+pub loop-i-preserved-then-turn : goal.loop-i-preserved-then-turn
+loop-i-preserved-then-turn c = search walk.walk_right
+
+pub loop-i-preserved : goal.loop-i-preserved
+loop-i-preserved c = search walk.walk_left
+
+pub returns : goal.returns
+returns c = search walk.walk_ends

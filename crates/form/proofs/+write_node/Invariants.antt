@@ -1,0 +1,7 @@
+use Prim.Native.Nat.{ℕ, ◌<◌}
+use Rattle.form.proofs.Writer as laws
+use borrow.Author.Rules.{rules}
+use Rattle.form.proofs.+write_node.Given as goal
+
+abbrev pub decreases-write_node : goal.decreases-write_node
+decreases-write_node l = l.n

@@ -1,0 +1,16 @@
+-- print_numbers: an answer for each need; what carries weight stands in the laws.
+use Prim.Native.Nat.{◌-◌}
+use lib.ListN.{length}
+use Rattle.lines.specs.Text.{numbers_text}
+use borrow.Author.Rules.{rules}
+use Rattle.lines.proofs.Printing as printing
+use Rattle.lines.proofs.print.print_numbers.Goals as goal
+
+pub loop-i-init : goal.loop-i-init
+loop-i-init c = search (printing.starts numbers_text printing.number_each)
+
+pub loop-i-preserved : goal.loop-i-preserved
+loop-i-preserved c = search (printing.turn numbers_text printing.number_each)
+
+pub returns : goal.returns
+returns c = search printing.numbers_end

@@ -1,0 +1,18 @@
+-- with_bytes: an answer for each need; what carries weight stands in the laws.
+use Prim.Native.Nat.{◌-◌}
+use lib.ListN.{length}
+use borrow.Author.Rules.{rules}
+use Rattle.lines.proofs.Reading as reading
+use Rattle.lines.proofs.read.with_bytes.Goals as goal
+
+pub loop-at-init : goal.loop-at-init
+loop-at-init c = search reading.walk_starts
+
+pub returns-then-x-eq10 : goal.returns-then-x-eq10
+returns-then-x-eq10 c = search reading.walk_newline
+
+pub loop-at-preserved : goal.loop-at-preserved
+loop-at-preserved c = search reading.walk_turn
+
+pub returns : goal.returns
+returns c = search reading.walk_ends

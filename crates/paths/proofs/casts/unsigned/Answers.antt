@@ -1,0 +1,10 @@
+-- `paths::casts::unsigned` meets its contract. Assumes nothing.
+use Rattle.paths.proofs.CastLaws as laws
+use borrow.Author.Rules.{rules}
+use Rattle.paths.proofs.casts.unsigned.Goals as goal
+
+pub measured-requires : goal.measured-requires
+measured-requires c = search laws.placed_zeros
+
+pub returns : goal.returns
+returns c = search laws.measured_as

@@ -1,0 +1,10 @@
+-- `paths::turns::is_low` meets its contract. Assumes nothing.
+use Rattle.paths.proofs.SignedLaws as laws
+use borrow.Author.Rules.{rules}
+use Rattle.paths.proofs.turns.is_low.Goals as goal
+
+pub returns-then-negative : goal.returns-then-negative
+returns-then-negative c = search laws.low_negative
+
+pub returns : goal.returns
+returns c = search laws.low_positive

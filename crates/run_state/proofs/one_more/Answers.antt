@@ -1,0 +1,13 @@
+-- one_more: one line a need; the laws are in Counting.
+use borrow.Author.Rules.{rules}
+use Rattle.run_state.proofs.Counting as counting
+use Rattle.run_state.proofs.one_more.Goals as goal
+
+pub returns-then-a-lt65535 : goal.returns-then-a-lt65535
+returns-then-a-lt65535 c = search counting.more_low
+
+pub returns-then-a-lt65535-2 : goal.returns-then-a-lt65535-2
+returns-then-a-lt65535-2 c = search counting.more_high
+
+pub returns : goal.returns
+returns c = search counting.more_full

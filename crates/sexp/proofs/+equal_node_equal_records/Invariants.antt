@@ -1,0 +1,12 @@
+-- equal_node and equal_records: the first node's number falls. One law of Equal for each call and each return.
+use Prim.Native.Nat.{ℕ, ◌+◌, ◌<◌}
+use borrow.Author.Rules.{rules}
+use Rattle.store.proofs.Ready.{room}
+use Rattle.sexp.proofs.Equal as equal
+use Rattle.sexp.proofs.+equal_node_equal_records.Given as goal
+
+abbrev pub decreases-equal_node : goal.decreases-equal_node
+decreases-equal_node l = l.x + l.x + 1
+
+abbrev pub decreases-equal_records : goal.decreases-equal_records
+decreases-equal_records l = l.a + l.a

@@ -1,0 +1,17 @@
+-- canon: an answer for each need; what carries weight stands in the laws.
+use Rattle.store.proofs.Ready as ready
+use Rattle.sexp.proofs.Equal as equal
+use borrow.Author.Rules.{rules}
+use Rattle.sexp.proofs.canon.Goals as goal
+
+pub loop-m-init : goal.loop-m-init
+loop-m-init c = search equal.same_starts
+
+pub same_node-s-requires : goal.same_node-s-requires
+same_node-s-requires c = search equal.same_room
+
+pub loop-m-preserved : goal.loop-m-preserved
+loop-m-preserved c = search equal.same_turn
+
+pub returns-else-s-m : goal.returns-else-s-m
+returns-else-s-m c = search equal.same_ends

@@ -1,0 +1,10 @@
+-- enlist_node: an answer for each need; what carries weight stands in the laws.
+use Rattle.sexp.proofs.Lists as lists
+use borrow.Author.Rules.{rules}
+use Rattle.sexp.proofs.enlist_node.Given as goal
+
+abbrev pub invariant-loop-i : goal.invariant-loop-i
+invariant-loop-i l = lists.Enlisting l.form l.initial.room l.room l.initial.c l.c l.items l.k l.i l.m l.tail
+
+abbrev pub decreases-loop-i : goal.decreases-loop-i
+decreases-loop-i l = l.i

@@ -1,0 +1,16 @@
+-- form_atom_node: an answer for each need; what carries weight stands in the laws.
+use Rattle.store.proofs.Charging as charging
+use Rattle.std.proofs.Common.{rules}
+use Rattle.store.proofs.form_atom_node.Goals as goal
+
+pub returns-then-len-eq0 : goal.returns-then-len-eq0
+returns-then-len-eq0 c = search charging.form_nil
+
+pub append_form_atom-d-requires : goal.append_form_atom-d-requires
+append_form_atom-d-requires c = (search charging.held_charged, search charging.form_paid, search rules, search rules)
+
+pub returns-in-Go : goal.returns-in-Go
+returns-in-Go c = search charging.form_bought
+
+pub returns-in-Stop : goal.returns-in-Stop
+returns-in-Stop c = search charging.form_over

@@ -1,0 +1,10 @@
+-- lay_pair: an answer for each need; what carries weight stands in the laws.
+use Rattle.store.proofs.Charging as charging
+use Rattle.std.proofs.Common.{rules}
+use Rattle.store.proofs.lay_pair.Goals as goal
+
+pub append_pair-d-requires : goal.append_pair-d-requires
+append_pair-d-requires c = (search charging.free_ready, search charging.free_ready, search charging.free_paid)
+
+pub returns : goal.returns
+returns c = search charging.laid

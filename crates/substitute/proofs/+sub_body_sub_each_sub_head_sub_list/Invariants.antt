@@ -1,0 +1,18 @@
+-- The cycle: the number of the node at work falls. One law of Answers for each call and each return.
+use Prim.Native.Nat.{ℕ, ◌+◌, ◌*◌, ◌<◌}
+use borrow.Author.Rules.{rules}
+use Rattle.store.proofs.Ready.{room, room_left, ready_left, ready_right}
+use Rattle.substitute.proofs.Answers as answers
+use Rattle.substitute.proofs.+sub_body_sub_each_sub_head_sub_list.Given as goal
+
+abbrev pub decreases-sub_body : goal.decreases-sub_body
+decreases-sub_body l = 2 * l.body
+
+abbrev pub decreases-sub_each : goal.decreases-sub_each
+decreases-sub_each l = 2 * l.list
+
+abbrev pub decreases-sub_head : goal.decreases-sub_head
+decreases-sub_head l = 2 * l.f + 1
+
+abbrev pub decreases-sub_list : goal.decreases-sub_list
+decreases-sub_list l = 2 * l.rest + 1

@@ -1,0 +1,13 @@
+-- cons_node: an answer for each need; what carries weight stands in the laws.
+use Rattle.substitute.proofs.Part as part
+use borrow.Author.Rules.{rules}
+use Rattle.substitute.proofs.cons_node.Goals as goal
+
+pub call_node-requires : goal.call_node-requires
+call_node-requires c = search part.cons_args
+
+pub returns-in-At : goal.returns-in-At
+returns-in-At c = search part.cons_found
+
+pub returns-in-Nothing : goal.returns-in-Nothing
+returns-in-Nothing c = search part.cons_called

@@ -1,0 +1,9 @@
+-- operator: an answer for each need; what carries weight stands in the laws.
+use Rattle.substitute.proofs.Part as part
+use Rattle.substitute.proofs.operator.Goals as goal
+
+pub returns-then-right : goal.returns-then-right
+returns-then-right c = search part.right_byte
+
+pub returns-else-right : goal.returns-else-right
+returns-else-right c = search part.left_byte
