@@ -1,5 +1,6 @@
 -- The one proof of the driver's cycle: one line a need; the laws are in driver_parts, Keeping and Changing.
-use mathlib.Core.Path.{◌≡◌, refl, ◌∙◌}
+use mathlib.Core.Path.{◌≡◌, refl, ap, ◌∙◌}
+use mathlib.Core.Bool.{not}
 use lib.ListN.{length}
 use Prim.Native.Nat.{ℕ, ◌+◌, ◌-◌, ◌*◌, ◌<◌}
 use borrow.Author.Rules.{rules}
@@ -54,13 +55,13 @@ pub drive-loop-s-init : goal.drive-loop-s-init
 drive-loop-s-init t c = (search looping.loop_starts, search rules, refl, search sofar_starts)
 
 pub drive-turn-s-requires : goal.drive-turn-s-requires
-drive-turn-s-requires t c = (omega (arith, (search rules)), (search looping.loop_fine, search looping.loop_nest, search rules))
+drive-turn-s-requires t c = (omega (arith, c.decreases), (search looping.loop_fine, search looping.loop_nest, search rules))
 
 pub drive-shape_of-room-in-Stopped : goal.drive-shape_of-room-in-Stopped
-drive-shape_of-room-in-Stopped t c = c.turn-s.auto.1.0 ∙ looping.loop_long _ _ _ _ _ _ _ _ _ _ c.loop-s.invariant.0
+drive-shape_of-room-in-Stopped t c = c.turn-s.auto.room ∙ looping.loop_long _ _ _ _ _ _ _ _ _ _ c.loop-s.invariant.0
 
 pub drive-shape_of-row-in-Stopped : goal.drive-shape_of-row-in-Stopped
-drive-shape_of-row-in-Stopped t c = c.turn-s.auto.1.1.0 ∙ c.loop-s.invariant.2
+drive-shape_of-row-in-Stopped t c = c.turn-s.auto.row ∙ c.loop-s.invariant.2
 
 pub drive-returns-in-Stopped : goal.drive-returns-in-Stopped
 drive-returns-in-Stopped t c = (looping.loop_stop _ _ _ _ _ _ _ _ _ _ c.loop-s.invariant.0 _ _ c.turn-s.ensures.0 _ c.in-Stopped.is, search rules, logging.loop_stop_noted _ _ _ _ _ _ _ _ _ _ c.loop-s.invariant.0 _ _ _ c.loop-s.invariant.3 _ _ c.turn-s.ensures.0 _ c.turn-s.ensures.2 _ c.in-Stopped.is)
@@ -69,16 +70,16 @@ pub drive-loop-s-smaller : goal.drive-loop-s-smaller
 drive-loop-s-smaller t c = looping.loop_less _ _ _ _ _ _ _ _ _ _ c.loop-s.invariant.0 _ _ c.turn-s.ensures.0 c.in-Changed.m (search rules)
 
 pub drive-loop-s-preserved : goal.drive-loop-s-preserved
-drive-loop-s-preserved t c = (looping.loop_changed _ _ _ _ _ _ _ _ _ _ c.loop-s.invariant.0 _ _ c.turn-s.ensures.0 c.in-Changed.m (search rules), search entries.valid_changed, c.turn-s.auto.1.1.0 ∙ c.loop-s.invariant.2, logging.loop_changed_noted _ _ _ _ _ _ _ _ _ _ c.loop-s.invariant.0 _ _ _ c.loop-s.invariant.3 _ _ c.turn-s.ensures.0 _ c.turn-s.ensures.2 c.in-Changed.m (search rules))
+drive-loop-s-preserved t c = (looping.loop_changed _ _ _ _ _ _ _ _ _ _ c.loop-s.invariant.0 _ _ c.turn-s.ensures.0 c.in-Changed.m (search rules), search entries.valid_changed, c.turn-s.auto.row ∙ c.loop-s.invariant.2, logging.loop_changed_noted _ _ _ _ _ _ _ _ _ _ c.loop-s.invariant.0 _ _ _ c.loop-s.invariant.3 _ _ c.turn-s.ensures.0 _ c.turn-s.ensures.2 c.in-Changed.m (search rules))
 
 pub drive-store-s-requires : goal.drive-store-s-requires
 drive-store-s-requires t c = (keeping.turn_valid _ _ _ _ _ _ c.finish-d.ensures (search rules) c.turn-s.ensures.1, keeping.end_ended _ _ _ _ _ _ _ _ _ _ c.loop-s.invariant.0 _ _ c.turn-s.ensures.0 (search rules) _ c.finish-d.ensures)
 
 pub drive-shape_of-room-in-Same : goal.drive-shape_of-room-in-Same
-drive-shape_of-room-in-Same t c = c.turn-s.auto.1.0 ∙ looping.loop_long _ _ _ _ _ _ _ _ _ _ c.loop-s.invariant.0
+drive-shape_of-room-in-Same t c = c.turn-s.auto.room ∙ looping.loop_long _ _ _ _ _ _ _ _ _ _ c.loop-s.invariant.0
 
 pub drive-shape_of-row-in-Same : goal.drive-shape_of-row-in-Same
-drive-shape_of-row-in-Same t c = c.store-s.auto.1.1.0 ∙ c.turn-s.auto.1.1.0 ∙ c.loop-s.invariant.2
+drive-shape_of-row-in-Same t c = c.store-s.auto.row ∙ c.turn-s.auto.row ∙ c.loop-s.invariant.2
 
 pub drive-returns-in-Same : goal.drive-returns-in-Same
 drive-returns-in-Same t c = (keeping.end_stored _ _ _ _ _ _ _ _ _ _ c.loop-s.invariant.0 _ _ c.turn-s.ensures.0 (search rules) _ c.finish-d.ensures _ _ _ c.store-s.ensures.kept, keeping.stored_still _ _ _ _ _ c.store-s.ensures.kept, logging.loop_stored_noted _ _ _ _ _ _ _ _ _ _ c.loop-s.invariant.0 _ _ _ c.loop-s.invariant.3 _ _ c.turn-s.ensures.0 _ c.turn-s.ensures.2 (search rules) _ _ _ _ c.store-s.ensures)
@@ -105,10 +106,10 @@ pub operands-put_before-d-requires : goal.operands-put_before-d-requires
 operands-put_before-d-requires t c = chunk.more_puttable _ _ _ _ _ _ _ _ _ _ _ _ _ _ c.loop-c.invariant.0 _ _ c.operands-s.ensures.0
 
 pub operands-shape_of-room-then-k-ge48 : goal.operands-shape_of-room-then-k-ge48
-operands-shape_of-room-then-k-ge48 t c = chunk.chunk_len_2 _ _ _ _ _ _ _ _ _ _ _ _ _ _ c.loop-c.invariant.0 c.operands-s.new.1.0 c.put_before-d.new.1.0 c.put_before-d.auto.1.0 c.operands-s.auto.1.0
+operands-shape_of-room-then-k-ge48 t c = chunk.chunk_len_2 _ _ _ _ _ _ _ _ _ _ _ _ _ _ c.loop-c.invariant.0 c.operands-s.new.room c.put_before-d.new.room c.put_before-d.auto.room c.operands-s.auto.room
 
 pub operands-shape_of-row-then-k-ge48 : goal.operands-shape_of-row-then-k-ge48
-operands-shape_of-row-then-k-ge48 t c = c.operands-s.auto.1.1.0 ∙ c.loop-c.invariant.2
+operands-shape_of-row-then-k-ge48 t c = c.operands-s.auto.row ∙ c.loop-c.invariant.2
 
 pub operands-returns-then-k-ge48 : goal.operands-returns-then-k-ge48
 operands-returns-then-k-ge48 t c = (chunk.more_put _ _ _ _ _ _ _ _ _ _ _ _ _ _ c.loop-c.invariant.0 _ _ c.operands-s.ensures.0 _ _ c.put_before-d.ensures, search keeping.put_still, logging.more_noted _ _ _ _ _ _ _ _ _ _ _ _ _ _ c.loop-c.invariant.0 _ _ _ c.loop-c.invariant.3 _ c.operands-s.ensures.2)
@@ -141,10 +142,10 @@ pub operands-worked_into-requires : goal.operands-worked_into-requires
 operands-worked_into-requires t c = chunk.elem_stands _ _ _ _ _ _ _ _ _ _ _ _ _ _ c.loop-c.invariant.0 _ c.look_node.ensures c.in-Pair.h c.in-Pair.t (search rules) _ _ c.drive-s.ensures.0
 
 pub operands-shape_of-room-in-Refused : goal.operands-shape_of-room-in-Refused
-operands-shape_of-room-in-Refused t c = c.drive-s.auto.1.0 ∙ chunk.chunk_long _ _ _ _ _ _ _ _ _ _ _ _ _ _ c.loop-c.invariant.0
+operands-shape_of-room-in-Refused t c = c.drive-s.auto.room ∙ chunk.chunk_long _ _ _ _ _ _ _ _ _ _ _ _ _ _ c.loop-c.invariant.0
 
 pub operands-shape_of-row-in-Refused : goal.operands-shape_of-row-in-Refused
-operands-shape_of-row-in-Refused t c = c.drive-s.auto.1.1.0 ∙ c.loop-c.invariant.2
+operands-shape_of-row-in-Refused t c = c.drive-s.auto.row ∙ c.loop-c.invariant.2
 
 pub operands-returns-in-Refused : goal.operands-returns-in-Refused
 operands-returns-in-Refused t c = (chunk.elem_refused _ _ _ _ _ _ _ _ _ _ _ _ _ _ c.loop-c.invariant.0 _ c.look_node.ensures c.in-Pair.h c.in-Pair.t (search rules) _ _ c.drive-s.ensures.0 _ c.worked_into.ensures (search rules), search rules, logging.refused_noted _ _ _ _ _ _ _ _ _ _ _ _ _ _ c.loop-c.invariant.0 _ _ _ c.loop-c.invariant.3 _ c.look_node.ensures c.in-Pair.h c.in-Pair.t (search rules) _ _ c.drive-s.ensures.0 _ c.drive-s.ensures.2 _ c.worked_into.ensures (search rules))
@@ -153,7 +154,7 @@ pub operands-loop-c-smaller : goal.operands-loop-c-smaller
 operands-loop-c-smaller t c = chunk.elem_falls _ _ _ _ _ _ _ _ _ _ _ _ _ _ c.loop-c.invariant.0 _ c.look_node.ensures c.in-Pair.h c.in-Pair.t (search rules)
 
 pub operands-loop-c-preserved : goal.operands-loop-c-preserved
-operands-loop-c-preserved t c = (chunk.elem_put _ _ _ _ _ _ _ _ _ _ _ _ _ _ c.loop-c.invariant.0 _ c.look_node.ensures c.in-Pair.h c.in-Pair.t (search rules) _ _ c.drive-s.ensures.0 _ c.worked_into.ensures _ _ (search rules) (search rules), keeping.element_valid _ _ _ _ _ _ _ _ c.in-Put.m c.in-Put.b c.worked_into.ensures (search rules) c.drive-s.ensures.1, c.drive-s.auto.1.1.0 ∙ c.loop-c.invariant.2, logging.put_noted _ _ _ _ _ _ _ _ _ _ _ _ _ _ c.loop-c.invariant.0 _ _ _ c.loop-c.invariant.3 _ c.look_node.ensures c.in-Pair.h c.in-Pair.t (search rules) _ _ c.drive-s.ensures.0 _ c.drive-s.ensures.2 _ c.worked_into.ensures c.in-Put.m c.in-Put.b (search rules))
+operands-loop-c-preserved t c = (chunk.elem_put _ _ _ _ _ _ _ _ _ _ _ _ _ _ c.loop-c.invariant.0 _ c.look_node.ensures c.in-Pair.h c.in-Pair.t (search rules) _ _ c.drive-s.ensures.0 _ c.worked_into.ensures _ _ (search rules) (search rules), keeping.element_valid _ _ _ _ _ _ _ _ c.in-Put.m c.in-Put.b c.worked_into.ensures (search rules) c.drive-s.ensures.1, c.drive-s.auto.row ∙ c.loop-c.invariant.2, logging.put_noted _ _ _ _ _ _ _ _ _ _ _ _ _ _ c.loop-c.invariant.0 _ _ _ c.loop-c.invariant.3 _ c.look_node.ensures c.in-Pair.h c.in-Pair.t (search rules) _ _ c.drive-s.ensures.0 _ c.drive-s.ensures.2 _ c.worked_into.ensures c.in-Put.m c.in-Put.b (search rules))
 
 pub optimizer-var_change_optimizer_cons_eval-requires : goal.optimizer-var_change_optimizer_cons_eval-requires
 optimizer-var_change_optimizer_cons_eval-requires t c = (omega arith, search rules)
@@ -180,7 +181,7 @@ pub settle-keep_body-e-requires : goal.settle-keep_body-e-requires
 settle-keep_body-e-requires t c = settling.constant_keepable _ _ _ _ _ _ c.requires.0 c.requires.1 _ _ c.seems_constant.ensures _ c.if-seems_constant.true _ _ c.drive-s.ensures.0
 
 pub settle-shape_of-room-then-seems_constant : goal.settle-shape_of-room-then-seems_constant
-settle-shape_of-room-then-seems_constant t c = c.keep_body-e.auto.1.0 ∙ c.drive-s.auto.1.0 ∙ c.seems_constant.auto.1.0
+settle-shape_of-room-then-seems_constant t c = c.keep_body-e.auto.room ∙ c.drive-s.auto.room ∙ c.seems_constant.auto.room
 
 pub settle-returns-then-seems_constant : goal.settle-returns-then-seems_constant
 settle-returns-then-seems_constant t c = (settling.constant_kept _ _ _ _ _ _ c.requires.0 c.requires.1 _ _ c.seems_constant.ensures _ c.if-seems_constant.true _ _ c.drive-s.ensures.0 _ _ _ c.keep_body-e.ensures, keeping.body_still _ _ _ _ _ _ _ _ c.drive-s.ensures.1 _ c.keep_body-e.ensures, logging.constant_noted _ _ _ _ _ _ c.requires.1 _ _ c.seems_constant.ensures _ _ _ _ c.if-seems_constant.true _ c.drive-s.ensures.2)
@@ -195,13 +196,13 @@ pub settle-operands-s-requires : goal.settle-operands-s-requires
 settle-operands-s-requires t c = (settling.settle_down _ _ _ _ _ _ c.requires.0 c.requires.1 _ _ c.seems_constant.ensures _ _ (search rules), (settling.settle_fine _ _ _ _ _ _ c.requires.0 c.requires.1 _ _ c.seems_constant.ensures, search rules, keeping.valid_answered _ _ _ _ _ _ _ _ _ c.seems_constant.ensures c.requires.3))
 
 pub settle-keep_list-e-requires : goal.settle-keep_list-e-requires
-settle-keep_list-e-requires t c = settling.list_keepable _ _ _ _ _ _ c.requires.0 c.requires.1 _ _ c.seems_constant.ensures _ c.if-seems_constant.false _ c.proper_list_node.ensures c.if-not-proper_list_node.false _ _ c.operands-s.ensures.0
+settle-keep_list-e-requires t c = settling.list_keepable _ _ _ _ _ _ c.requires.0 c.requires.1 _ _ c.seems_constant.ensures _ c.if-seems_constant.false _ c.proper_list_node.ensures (ap not c.if-not-proper_list_node.false) _ _ c.operands-s.ensures.0
 
 pub settle-shape_of-room : goal.settle-shape_of-room
-settle-shape_of-room t c = c.keep_list-e.auto.1.0 ∙ c.operands-s.auto.1.0 ∙ c.seems_constant.auto.1.0
+settle-shape_of-room t c = c.keep_list-e.auto.room ∙ c.operands-s.auto.room ∙ c.seems_constant.auto.room
 
 pub settle-returns : goal.settle-returns
-settle-returns t c = (settling.list_settled _ _ _ _ _ _ c.requires.0 c.requires.1 _ _ c.seems_constant.ensures _ c.if-seems_constant.false _ c.proper_list_node.ensures c.if-not-proper_list_node.false _ _ c.operands-s.ensures.0 _ _ _ c.keep_list-e.ensures, keeping.list_still _ _ _ _ _ _ _ _ c.operands-s.ensures.1 c.keep_list-e.ensures, logging.listed_noted _ _ _ _ _ _ c.requires.1 _ _ c.seems_constant.ensures _ _ _ _ c.if-seems_constant.false _ c.proper_list_node.ensures c.if-not-proper_list_node.false _ c.operands-s.ensures.2)
+settle-returns t c = (settling.list_settled _ _ _ _ _ _ c.requires.0 c.requires.1 _ _ c.seems_constant.ensures _ c.if-seems_constant.false _ c.proper_list_node.ensures (ap not c.if-not-proper_list_node.false) _ _ c.operands-s.ensures.0 _ _ _ c.keep_list-e.ensures, keeping.list_still _ _ _ _ _ _ _ _ c.operands-s.ensures.1 c.keep_list-e.ensures, logging.listed_noted _ _ _ _ _ _ c.requires.1 _ _ c.seems_constant.ensures _ _ _ _ c.if-seems_constant.false _ c.proper_list_node.ensures (ap not c.if-not-proper_list_node.false) _ c.operands-s.ensures.2)
 
 pub turn-returns-in-Changed : goal.turn-returns-in-Changed
 turn-returns-in-Changed t c = (search turning.at_atom, search keeping.atom_still, search logging.leaf_noted)
@@ -213,28 +214,28 @@ pub turn-loop-rule-init : goal.turn-loop-rule-init
 turn-loop-rule-init t c = (search turning.turn_starts, search keeping.begun_valid, refl, search sofar_starts)
 
 pub turn-optimizer-s-requires : goal.turn-optimizer-s-requires
-turn-optimizer-s-requires t c = (omega (arith, (search rules)), (search turning.turn_fine, search turning.turn_nest, search turning.turn_least, search turning.turn_most, search rules))
+turn-optimizer-s-requires t c = (omega (arith, c.decreases), (search turning.turn_fine, search turning.turn_nest, search turning.turn_least, search turning.turn_most, search rules))
 
 pub turn-loop-rule-preserved : goal.turn-loop-rule-preserved
-turn-loop-rule-preserved t c = (turning.rule_next _ _ _ _ _ _ _ _ _ c.loop-rule.invariant.0 _ _ c.optimizer-s.ensures.0 c.loop-rule-test.true (search rules), search entries.valid_same, c.optimizer-s.auto.1.1.0 ∙ c.loop-rule.invariant.2, logging.next_noted _ _ _ _ _ _ _ _ _ c.loop-rule.invariant.0 _ _ _ c.loop-rule.invariant.3 _ _ c.optimizer-s.ensures.0 c.loop-rule-test.true _ c.optimizer-s.ensures.2 (search rules))
+turn-loop-rule-preserved t c = (turning.rule_next _ _ _ _ _ _ _ _ _ c.loop-rule.invariant.0 _ _ c.optimizer-s.ensures.0 c.loop-rule-test.true (search rules), search entries.valid_same, c.optimizer-s.auto.row ∙ c.loop-rule.invariant.2, logging.next_noted _ _ _ _ _ _ _ _ _ c.loop-rule.invariant.0 _ _ _ c.loop-rule.invariant.3 _ _ c.optimizer-s.ensures.0 c.loop-rule-test.true _ c.optimizer-s.ensures.2 (search rules))
 
 pub turn-note-requires : goal.turn-note-requires
-turn-note-requires t c = logging.note_asks _ _ _ _ _ _ _ _ _ c.loop-rule.invariant.0 _ _ _ c.loop-rule.invariant.1 _ c.optimizer-s.auto.1.1.0 c.loop-rule-test.true
+turn-note-requires t c = logging.note_asks _ _ _ _ _ _ _ _ _ c.loop-rule.invariant.0 _ _ _ c.loop-rule.invariant.1 _ c.optimizer-s.auto.row c.loop-rule-test.true
 
 pub turn-shape_of-room-in-Changed-o : goal.turn-shape_of-room-in-Changed-o
-turn-shape_of-room-in-Changed-o t c = c.optimizer-s.auto.1.0 ∙ turning.turn_long _ _ _ _ _ _ _ _ _ c.loop-rule.invariant.0
+turn-shape_of-room-in-Changed-o t c = c.optimizer-s.auto.room ∙ turning.turn_long _ _ _ _ _ _ _ _ _ c.loop-rule.invariant.0
 
 pub turn-shape_of-row-in-Changed-o : goal.turn-shape_of-row-in-Changed-o
-turn-shape_of-row-in-Changed-o t c = c.note.auto.0 ∙ c.optimizer-s.auto.1.1.0 ∙ c.loop-rule.invariant.2
+turn-shape_of-row-in-Changed-o t c = c.note.auto.row ∙ c.optimizer-s.auto.row ∙ c.loop-rule.invariant.2
 
 pub turn-returns-in-Changed-o : goal.turn-returns-in-Changed-o
 turn-returns-in-Changed-o t c = (turning.turn_whole _ _ _ _ _ _ c.requires.0 _ c.begin-b.ensures (search rules) _ _ (turning.rule_changed _ _ _ _ _ _ _ _ _ c.loop-rule.invariant.0 _ _ c.optimizer-s.ensures.0 c.loop-rule-test.true _ c.in-Changed-o.is), search logging.still_noted, logging.whole_noted _ _ _ _ _ _ c.begin-b.ensures _ (search rules) _ _ (logging.changed_noted _ _ _ _ _ _ _ _ _ c.loop-rule.invariant.0 _ _ _ c.loop-rule.invariant.3 _ _ c.optimizer-s.ensures.0 c.loop-rule-test.true _ c.optimizer-s.ensures.2 _ c.in-Changed-o.is _ c.note.ensures))
 
 pub turn-shape_of-room-in-Stopped-o : goal.turn-shape_of-room-in-Stopped-o
-turn-shape_of-room-in-Stopped-o t c = c.optimizer-s.auto.1.0 ∙ turning.turn_long _ _ _ _ _ _ _ _ _ c.loop-rule.invariant.0
+turn-shape_of-room-in-Stopped-o t c = c.optimizer-s.auto.room ∙ turning.turn_long _ _ _ _ _ _ _ _ _ c.loop-rule.invariant.0
 
 pub turn-shape_of-row-in-Stopped-o : goal.turn-shape_of-row-in-Stopped-o
-turn-shape_of-row-in-Stopped-o t c = c.optimizer-s.auto.1.1.0 ∙ c.loop-rule.invariant.2
+turn-shape_of-row-in-Stopped-o t c = c.optimizer-s.auto.row ∙ c.loop-rule.invariant.2
 
 pub turn-returns-in-Stopped-o : goal.turn-returns-in-Stopped-o
 turn-returns-in-Stopped-o t c = (turning.turn_whole _ _ _ _ _ _ c.requires.0 _ c.begin-b.ensures (search rules) _ _ (turning.rule_stopped _ _ _ _ _ _ _ _ _ c.loop-rule.invariant.0 _ _ c.optimizer-s.ensures.0 c.loop-rule-test.true _ c.in-Stopped-o.is), search rules, logging.whole_noted _ _ _ _ _ _ c.begin-b.ensures _ (search rules) _ _ (logging.stop_noted _ _ _ _ _ _ _ _ _ c.loop-rule.invariant.0 _ _ _ c.loop-rule.invariant.3 _ _ c.optimizer-s.ensures.0 c.loop-rule-test.true _ c.optimizer-s.ensures.2 _ c.in-Stopped-o.is))
@@ -261,7 +262,7 @@ pub var_change_optimizer_cons_eval-settle-s-requires : goal.var_change_optimizer
 var_change_optimizer_cons_eval-settle-s-requires t c = (omega arith, let y = changing.change_valid _ _ _ _ _ c.requires.0 _ _ c.applied_of.ensures _ _ (search rules) _ _ c.sub_args.ensures c.in-Done.x (search rules) _ _ c.requires.2 in let z = changing.change_fine _ _ _ _ _ c.requires.0 _ _ c.applied_of.ensures _ _ (search rules) _ _ c.sub_args.ensures c.in-Done.x (search rules) in (z.0, z.1, c.requires.1, y))
 
 pub var_change_optimizer_cons_eval-shape_of-room-in-Done : goal.var_change_optimizer_cons_eval-shape_of-room-in-Done
-var_change_optimizer_cons_eval-shape_of-room-in-Done t c = c.settle-s.auto.1.0 ∙ c.sub_args.auto.1.0 ∙ c.applied_of.auto.1.0
+var_change_optimizer_cons_eval-shape_of-room-in-Done t c = c.settle-s.auto.room ∙ c.sub_args.auto.room ∙ c.applied_of.auto.room
 
 pub var_change_optimizer_cons_eval-returns-in-Done : goal.var_change_optimizer_cons_eval-returns-in-Done
 var_change_optimizer_cons_eval-returns-in-Done t c = (changing.change_settled _ _ _ _ _ c.requires.0 _ _ c.applied_of.ensures c.in-Call.b c.in-Call.a c.in-Call.is _ _ c.sub_args.ensures c.in-Done.x (search rules) _ _ _ c.settle-s.ensures.0, search rules, changing.change_settled_noted _ _ _ _ _ c.requires.0 _ _ c.applied_of.ensures c.in-Call.b c.in-Call.a c.in-Call.is _ _ c.sub_args.ensures c.in-Done.x (search rules) _ _ _ _ c.settle-s.ensures.2)
