@@ -1,8 +1,10 @@
 // What `optimise` leaves of the bytes that are lent to it: rooms short, exact, longer and dirty, and outputs one short, exact and one long.
 // A line says the room's length and what fills it, and the output's length; the answer; how many bytes of the room are not 0 then, and the
 // output, which was filled with ee.
-use libc::STDOUT_FILENO;
 use optimiser::Answer;
+
+// Standard output.
+const STDOUT_FILENO: i32 = 1;
 
 fn say(text: &[u8]) {
     io::write_all(STDOUT_FILENO, text);

@@ -1,5 +1,5 @@
 -- The work of a run in its room: what each return needs. Assumes nothing.
-use mathlib.Core.Path.{◌≡◌, sym, ◌∙◌, ap, ap₂}
+use mathlib.Core.Path.{◌≡◌, refl, sym, ◌∙◌, ap, ap₂, subst}
 use mathlib.Core.List.{List}
 use mathlib.Core.Bool.{true}
 use Prim.Native.Nat.{ℕ, ◌≤◌}
@@ -45,11 +45,11 @@ use Rattle.optimiser.specs.Worked.{Fresh, finish_at, WorkedOk}
 module _ (w : Work) (n : ℕ) where
   pub finish_same : w.last ≡ Same → Node n w ≡ finish_at n w w.last
   unfolding finish_at
-  finish_same e = rw (e, finish_at)
+  finish_same e = let P : Outcome → Type 0 = λ o. Node n w ≡ finish_at n w o in subst P (sym e) refl
 
   pub finish_changed : (m : ℕ) → w.last ≡ Changed m → Node m w ≡ finish_at n w w.last
   unfolding finish_at
-  finish_changed m e = rw (e, finish_at)
+  finish_changed m e = let P : Outcome → Type 0 = λ o. Node m w ≡ finish_at n w o in subst P (sym e) refl
 
   pub finish_stopped : (r : Refusal) → w.last ≡ Stopped r → Refused r ≡ finish_at n w w.last
   unfolding finish_at

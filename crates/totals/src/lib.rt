@@ -37,7 +37,7 @@ pub enum Column {
 }
 
 // The report after a form, and the form's column.
-#[derive(Clone, Copy)]
+#[derive(Drop)]
 pub struct Added {
     pub savings: Savings,
     pub column: Column,

@@ -1,0 +1,16 @@
+-- fault_of_text: the limit, then how the machine ends. Assumes nothing.
+use Rattle.text_reader.proofs.ConvertLaws as laws
+use borrow.Author.Rules.{rules}
+use Rattle.text_reader.proofs.convert.fault_of_text.Goals as goal
+
+pub returns-then-text-gt-TEXT : goal.returns-then-text-gt-TEXT
+returns-then-text-gt-TEXT c = search laws.too_long_to_see
+
+pub next_place-requires : goal.next_place-requires
+next_place-requires c = search laws.stops_within
+
+pub returns-in-Whole : goal.returns-in-Whole
+returns-in-Whole c = search laws.whole_parses
+
+pub returns-in-Stops : goal.returns-in-Stops
+returns-in-Stops c = search laws.stops_there

@@ -1,0 +1,18 @@
+-- word_end: the word goes on at i. Assumes nothing.
+use Prim.Native.Nat.{◌-◌}
+use lib.ListN.{length}
+use Rattle.text_reader.proofs.ScanLaws as laws
+use borrow.Author.Rules.{rules}
+use Rattle.text_reader.proofs.scan.word_end.Goals as goal
+
+pub loop-i-init : goal.loop-i-init
+loop-i-init c = search laws.word_starts
+
+pub returns-then-not-is_plain : goal.returns-then-not-is_plain
+returns-then-not-is_plain c = search laws.word_found
+
+pub loop-i-preserved : goal.loop-i-preserved
+loop-i-preserved c = search laws.word_turn
+
+pub returns : goal.returns
+returns c = search laws.word_all

@@ -1,0 +1,16 @@
+-- word_bytes: a name, hex, or a number. Assumes nothing.
+use Rattle.text_reader.proofs.WordLaws as laws
+use borrow.Author.Rules.{rules}
+use Rattle.text_reader.proofs.words.word_bytes.Goals as goal
+
+pub returns-then-k-gt0 : goal.returns-then-k-gt0
+returns-then-k-gt0 c = search laws.word_name
+
+pub hex_bytes-requires : goal.hex_bytes-requires
+hex_bytes-requires c = (search laws.hex_long, search rules)
+
+pub returns-then-begins_hex : goal.returns-then-begins_hex
+returns-then-begins_hex c = search laws.word_hex
+
+pub returns : goal.returns
+returns c = search laws.word_number

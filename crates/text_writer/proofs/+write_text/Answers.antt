@@ -1,0 +1,48 @@
+-- write_text: an answer for each need; what carries weight stands in the laws.
+use Prim.Native.Nat.{ℕ, ◌<◌}
+use Rattle.form.proofs.Writer as parts
+use Rattle.text_writer.proofs.Pairs as laws
+use borrow.Author.Rules.{rules}
+use Rattle.text_writer.proofs.+write_text.Goals as goal
+
+pub after-o-requires : goal.after-o-requires
+after-o-requires t c = search laws.room_left
+
+pub bounds-out-0 : goal.bounds-out-0
+bounds-out-0 t c = search laws.some_room
+
+pub slice_bounds-write_text-count : goal.slice_bounds-write_text-count
+slice_bounds-write_text-count t c = search laws.after_first
+
+pub slice_bounds-write_text-start : goal.slice_bounds-write_text-start
+slice_bounds-write_text-start t c = search laws.after_first
+
+pub write_text-k-requires : goal.write_text-k-requires
+write_text-k-requires t c = (search parts.falls_left, (search parts.writable_left, search laws.left_fits))
+
+pub overflow_add-at : goal.overflow_add-at
+overflow_add-at t c = search laws.at_small
+
+pub slice_bounds-write_text-count-in-Pair : goal.slice_bounds-write_text-count-in-Pair
+slice_bounds-write_text-count-in-Pair t c = search laws.at_within
+
+pub slice_bounds-write_text-start-in-Pair : goal.slice_bounds-write_text-start-in-Pair
+slice_bounds-write_text-start-in-Pair t c = search laws.at_within
+
+pub write_text-m-requires : goal.write_text-m-requires
+write_text-m-requires t c = (search parts.falls_right, (search parts.writable_right, search laws.right_fits))
+
+pub overflow_add-result : goal.overflow_add-result
+overflow_add-result t c = search laws.sum_small
+
+pub put_end-requires : goal.put_end-requires
+put_end-requires t c = (search laws.atom_few, search laws.atom_fits)
+
+pub shape_of-out-in-Pair : goal.shape_of-out-in-Pair
+shape_of-out-in-Pair t c = search laws.pair_same
+
+pub returns-in-Pair : goal.returns-in-Pair
+returns-in-Pair t c = search laws.write_pair
+
+pub returns-in-Atom : goal.returns-in-Atom
+returns-in-Atom t c = search laws.write_done

@@ -1,0 +1,43 @@
+-- put_last: an answer for each need; what carries weight stands in the laws.
+use Rattle.text_writer.proofs.Endings as laws
+use borrow.Author.Rules.{rules}
+use Rattle.text_writer.proofs.put_last.Goals as goal
+
+pub bounds-out-0 : goal.bounds-out-0
+bounds-out-0 c = search laws.last_nil_room
+
+pub returns-then-n-eq0 : goal.returns-then-n-eq0
+returns-then-n-eq0 c = search laws.last_nil_wrote
+
+pub bounds-out-0-2 : goal.bounds-out-0-2
+bounds-out-0-2 c = search laws.dot_first
+
+pub bounds-out-1 : goal.bounds-out-1
+bounds-out-1 c = search laws.dot_second
+
+pub bounds-out-2 : goal.bounds-out-2
+bounds-out-2 c = search laws.dot_third
+
+pub slice_bounds-put_atom-count : goal.slice_bounds-put_atom-count
+slice_bounds-put_atom-count c = search laws.dot_start
+
+pub slice_bounds-put_atom-start : goal.slice_bounds-put_atom-start
+slice_bounds-put_atom-start c = search laws.dot_start
+
+pub put_atom-k-requires : goal.put_atom-k-requires
+put_atom-k-requires c = (search rules, search laws.dot_fits)
+
+pub overflow_add-end : goal.overflow_add-end
+overflow_add-end c = search laws.end_small
+
+pub bounds-out-end : goal.bounds-out-end
+bounds-out-end c = search laws.end_within
+
+pub overflow_add-result : goal.overflow_add-result
+overflow_add-result c = search laws.end_sum
+
+pub shape_of-out : goal.shape_of-out
+shape_of-out c = search laws.last_same
+
+pub returns : goal.returns
+returns c = search laws.last_wrote
