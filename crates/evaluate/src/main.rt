@@ -2,6 +2,6 @@
 // or `no line` where either is not an even count of lower-case hex digits.
 use serve::Program;
 
-fn main() {
-    serve::run(Program::Evaluate);
+fn main(rt: HostRuntime) {
+    serve::run(rt.stdin(), Program::Evaluate);
 }

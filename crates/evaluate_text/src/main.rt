@@ -2,6 +2,6 @@
 // refusal's number; or `no line` where the second line is missing.
 use serve::Program;
 
-fn main() {
-    serve::run(Program::EvaluateText);
+fn main(rt: HostRuntime) {
+    serve::run(rt.stdin(), Program::EvaluateText);
 }

@@ -2,6 +2,6 @@
 // `no match`; `too many names`; `no` and the refusal's number; or `no line` where either is not an even count of lower-case hex digits.
 use serve::Program;
 
-fn main() {
-    serve::run(Program::Match);
+fn main(rt: HostRuntime) {
+    serve::run(rt.stdin(), Program::Match);
 }

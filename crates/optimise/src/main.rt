@@ -7,9 +7,11 @@ ghost use Rattle.outcome.specs.Line.{line_of};
 ghost use Rattle.optimise.specs.Only.{Only};
 
 use lines::{Got, Lines, Spelling};
+use std::io::Stdin;
 
 // Answers the first line: text[..put] is the line that is printed for it.
 fn answer(
+    input: Stdin,
     buf: &mut [u8],
     form: &mut [u8],
     room: &mut [u8],
@@ -19,7 +21,7 @@ fn answer(
     requires { (length out.old ≤ out_most) × (line_most ≤ length text.old) }
     ensures { Only (line_of (run (take result.n form.new) (length room.old) (length out.old))) text.new result }
 {
-    let mut r = lines::next_line(Spelling::Hex, buf, form, text, lines::start());
+    let mut r = lines::next_line(input, Spelling::Hex, buf, form, text, lines::start());
     let n = r.n;
     let g = r.got;
     match g {
@@ -38,12 +40,12 @@ fn answer(
     }
 }
 
-fn main() {
+fn main(rt: HostRuntime) {
     let mut buf = [0u8; 4096];
     let mut form = [0u8; 8193];
     let mut room = [0u8; 65536];
     let mut out = [0u8; 32768];
     let mut text = [0u8; 69632];
-    let r = answer(&mut buf, &mut form, &mut room, &mut out, &mut text);
+    let r = answer(rt.stdin(), &mut buf, &mut form, &mut room, &mut out, &mut text);
     lines::flush(&text, r.put);
 }

@@ -2,6 +2,6 @@
 // is not an even count of lower-case hex digits.
 use serve::Program;
 
-fn main() {
-    serve::run(Program::Optimise);
+fn main(rt: HostRuntime) {
+    serve::run(rt.stdin(), Program::Optimise);
 }

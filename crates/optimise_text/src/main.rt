@@ -1,6 +1,6 @@
 // For every line of text one line: `ok`, the text of the optimised tree, passes, units and mark; or `no` and the refusal's number.
 use serve::Program;
 
-fn main() {
-    serve::run(Program::OptimiseText);
+fn main(rt: HostRuntime) {
+    serve::run(rt.stdin(), Program::OptimiseText);
 }

@@ -9,6 +9,7 @@ ghost use Rattle.lines.specs.Text.{line_most};
 
 use lines::{Got, Lines, Spelling};
 use paths::Number;
+use std::io::Stdin;
 
 // The bytes from an index on.
 fn print_from(bytes: &[u8], from: usize, text: &mut [u8], at: usize) -> usize {
@@ -111,10 +112,10 @@ fn print_row(row: &[u8], text: &mut [u8], at: usize) -> usize {
 }
 
 // Answers the next line.
-fn turn(buf: &mut [u8], row: &mut [u8], text: &mut [u8], s: Lines) -> Lines
+fn turn(input: Stdin, buf: &mut [u8], row: &mut [u8], text: &mut [u8], s: Lines) -> Lines
     requires { line_most ≤ length text.old }
 {
-    let mut r = lines::next_line(Spelling::Hex, buf, row, text, s);
+    let mut r = lines::next_line(input, Spelling::Hex, buf, row, text, s);
     let n = r.n;
     let at = lines::room_for_line(text, r.put);
     let g = r.got;
@@ -136,21 +137,21 @@ fn turn(buf: &mut [u8], row: &mut [u8], text: &mut [u8], s: Lines) -> Lines
 }
 
 // Nothing says that the input ends: the turns are counted down, from a number that no run uses up.
-fn turns(buf: &mut [u8], row: &mut [u8], text: &mut [u8])
+fn turns(input: Stdin, buf: &mut [u8], row: &mut [u8], text: &mut [u8])
     requires { line_most ≤ length text.old }
 {
     let mut s = lines::start();
     let mut left = u64::MAX;
     while 0 < left {
-        s = turn(buf, row, text, s);
+        s = turn(input, buf, row, text, s);
         left = lines::left(s, left);
     }
 }
 
 // Of a row one byte more than it may have is kept.
-fn main() {
+fn main(rt: HostRuntime) {
     let mut buf = [0u8; 4096];
     let mut row = [0u8; 67];
     let mut text = [0u8; 69632];
-    turns(&mut buf, &mut row, &mut text);
+    turns(rt.stdin(), &mut buf, &mut row, &mut text);
 }

@@ -2,6 +2,6 @@
 // `no line` where it is not an even count of lower-case hex digits.
 use serve::Program;
 
-fn main() {
-    serve::run(Program::Read);
+fn main(rt: HostRuntime) {
+    serve::run(rt.stdin(), Program::Read);
 }

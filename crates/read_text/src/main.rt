@@ -2,6 +2,6 @@
 // refusal's number.
 use serve::Program;
 
-fn main() {
-    serve::run(Program::ReadText);
+fn main(rt: HostRuntime) {
+    serve::run(rt.stdin(), Program::ReadText);
 }

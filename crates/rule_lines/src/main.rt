@@ -2,6 +2,6 @@
 // tree, units and mark; `no` and the refusal's number; or `no line` where the first is no rule's number or either is no line of hex.
 use serve::Program;
 
-fn main() {
-    serve::run(Program::Rule);
+fn main(rt: HostRuntime) {
+    serve::run(rt.stdin(), Program::Rule);
 }

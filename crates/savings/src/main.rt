@@ -7,6 +7,7 @@ ghost use Rattle.savings.specs.Report.{refused_text, totals_text, report_text, l
 
 use lines::{Got, Lines, Spelling};
 use refusals::Refusal;
+use std::io::Stdin;
 use totals::{Column, Savings};
 
 // Where the list stands: the lines, the report so far, and whether it is at its end.
@@ -120,13 +121,20 @@ fn work_in(form: &[u8], room: &mut [u8], text: &mut [u8], at: usize, t: Listed) 
 }
 
 // Takes the next line.
-fn turn(buf: &mut [u8], forms: &mut [u8], room: &mut [u8], text: &mut [u8], t: Listed) -> Listed
+fn turn(
+    input: Stdin,
+    buf: &mut [u8],
+    forms: &mut [u8],
+    room: &mut [u8],
+    text: &mut [u8],
+    t: Listed,
+) -> Listed
     requires { line_most ≤ length text.old }
     ensures { Turned t.savings t.lines.put forms.new room.old text.old text.new result }
 {
     let l = t.lines;
     let s = t.savings;
-    let mut r = lines::next_line(Spelling::Hex, buf, forms, text, l);
+    let mut r = lines::next_line(input, Spelling::Hex, buf, forms, text, l);
     let n = r.n;
     let at = lines::room_for_line(text, r.put);
     let g = r.got;
@@ -159,7 +167,7 @@ fn turn(buf: &mut [u8], forms: &mut [u8], room: &mut [u8], text: &mut [u8], t: L
 }
 
 // Nothing says that the input ends: the turns are counted down, from a number that no run uses up.
-fn list(buf: &mut [u8], forms: &mut [u8], room: &mut [u8], text: &mut [u8])
+fn list(input: Stdin, buf: &mut [u8], forms: &mut [u8], room: &mut [u8], text: &mut [u8])
     requires { line_most ≤ length text.old }
 {
     let mut t = Listed {
@@ -169,7 +177,7 @@ fn list(buf: &mut [u8], forms: &mut [u8], room: &mut [u8], text: &mut [u8])
     };
     let mut left = u64::MAX;
     while 0 < left {
-        t = turn(buf, forms, room, text, t);
+        t = turn(input, buf, forms, room, text, t);
         let l = t.lines;
         if t.over {
             lines::flush(text, l.put);
@@ -181,10 +189,10 @@ fn list(buf: &mut [u8], forms: &mut [u8], room: &mut [u8], text: &mut [u8])
 }
 
 // A form has at most 8,192 bytes, and of each line one byte more is kept: a longer one is refused.
-fn main() {
+fn main(rt: HostRuntime) {
     let mut buf = [0u8; 4096];
     let mut forms = [0u8; 8193];
     let mut room = [0u8; 65536];
     let mut text = [0u8; 69632];
-    list(&mut buf, &mut forms, &mut room, &mut text);
+    list(rt.stdin(), &mut buf, &mut forms, &mut room, &mut text);
 }

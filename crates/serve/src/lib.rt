@@ -6,6 +6,7 @@ ghost use Rattle.lines.specs.Line.{Came, Turned};
 ghost use Rattle.serve.specs.Reply.{reply, Lent};
 
 use lines::{Got, Lines, Spelling};
+use std::io::Stdin;
 
 #[derive(Clone, Copy)]
 pub enum Program {
@@ -64,14 +65,14 @@ fn takes_two(which: Program) -> bool {
 }
 
 // The next line, or the next two where the program takes two.
-fn next(which: Program, buf: &mut [u8], forms: &mut [u8], text: &[u8], s: Lines) -> Lines
+fn next(input: Stdin, which: Program, buf: &mut [u8], forms: &mut [u8], text: &[u8], s: Lines) -> Lines
     ensures { Came forms.new s result }
 {
     let how = spelling(which);
     if takes_two(which) {
-        return lines::next_two(how, buf, forms, text, s);
+        return lines::next_two(input, how, buf, forms, text, s);
     }
-    lines::next_line(how, buf, forms, text, s)
+    lines::next_line(input, how, buf, forms, text, s)
 }
 
 // Prints the program's reply after text[..at]; forms[..first] are the first line's bytes.
@@ -103,6 +104,7 @@ fn answer(
 
 // Answers what comes next. There is room for the line before it is begun: so what is handed to a write is never a part of one.
 fn turn(
+    input: Stdin,
     which: Program,
     buf: &mut [u8],
     forms: &mut [u8],
@@ -114,7 +116,7 @@ fn turn(
     requires { Lent room.old out.old text.old }
     ensures { Turned (reply which (length room.old) (length out.old)) forms.new text.old text.new s result }
 {
-    let mut r = next(which, buf, forms, text, s);
+    let mut r = next(input, which, buf, forms, text, s);
     let n = r.n;
     let at = lines::room_for_line(text, r.put);
     let g = r.got;
@@ -136,6 +138,7 @@ fn turn(
 
 // Nothing says that the input ends: the turns are counted down, from a number that no run uses up.
 fn turns(
+    input: Stdin,
     which: Program,
     buf: &mut [u8],
     forms: &mut [u8],
@@ -148,18 +151,18 @@ fn turns(
     let mut s = lines::start();
     let mut left = u64::MAX;
     while 0 < left {
-        s = turn(which, buf, forms, room, out, text, s);
+        s = turn(input, which, buf, forms, room, out, text, s);
         left = lines::left(s, left);
     }
 }
 
 // A form has at most 8,192 bytes and a text at most 32,768, and of each line one byte more is kept: a longer one is refused. What waits
 // has room for the longest line and some before it.
-pub fn run(which: Program) {
+pub fn run(input: Stdin, which: Program) {
     let mut buf = [0u8; 4096];
     let mut forms = [0u8; 65538];
     let mut room = [0u8; 65536];
     let mut out = [0u8; 32768];
     let mut text = [0u8; 69632];
-    turns(which, &mut buf, &mut forms, &mut room, &mut out, &mut text);
+    turns(input, which, &mut buf, &mut forms, &mut room, &mut out, &mut text);
 }

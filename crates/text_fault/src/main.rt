@@ -2,6 +2,6 @@
 // `no` and the refusal's number.
 use serve::Program;
 
-fn main() {
-    serve::run(Program::TextFault);
+fn main(rt: HostRuntime) {
+    serve::run(rt.stdin(), Program::TextFault);
 }

@@ -9,7 +9,7 @@ use mir.Val.{bool_byte}
 use lib.ListN.{get_or, set}
 use borrow.Author.Tests.{ltb-true, lt-ltb, le-ltb}
 use Rattle.refusals.specs.declared.Refusal.{Refusal}
-use Rattle.refusals.specs.declared.Refusal.TheVariants.{RoomSmall, FormLong, EndsEarly, BadPrefix, AtomLong, BytesAfter, UnitsOut, Fails, NoOperator, StepsOut, PathLong, PassesOut, TooDeep, OutputShort, NoParse, TextLong, ReportFull}
+use Rattle.refusals.specs.declared.Refusal.TheVariants.{RoomSmall, FormLong, EndsEarly, BadPrefix, AtomLong, BytesAfter, UnitsOut, Fails, NoOperator, StepsOut, PathLong, PassesOut, TooDeep, OutputShort, NoParse, TextLong, ReportFull, NotATrace, TraceCut, TraceLong}
 use Rattle.refusals.specs.Numbers.{number_of}
 use Rattle.meaning.proofs.Tests.{not_false}
 use Rattle.meaning.specs.Run.{mark_number}
@@ -115,6 +115,9 @@ number_least OutputShort = omega arith
 number_least NoParse = omega arith
 number_least TextLong = omega arith
 number_least ReportFull = omega arith
+number_least NotATrace = omega arith
+number_least TraceCut = omega arith
+number_least TraceLong = omega arith
 
 pub refusal_least : (r : Refusal) (n : ℕ) → n ≡ number_of r → 1 ≤ n
 refusal_least r n e = rw e (number_least r)

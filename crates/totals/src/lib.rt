@@ -17,7 +17,7 @@ use store::ROOM;
 
 // Totals over the forms so far. Each form stands in one column: answered, or refused by its number, 1 to 14. All else is over the
 // answered ones: how many are marked, their bytes as submitted and finished, the most passes, and how often each rule ended a pass.
-#[derive(Drop)]
+#[derive(Clone, Copy)]
 pub struct Savings {
     pub answered: u64,
     pub refused: [u64; 14],
@@ -37,7 +37,7 @@ pub enum Column {
 }
 
 // The report after a form, and the form's column.
-#[derive(Drop)]
+#[derive(Clone, Copy)]
 pub struct Added {
     pub savings: Savings,
     pub column: Column,

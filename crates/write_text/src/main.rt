@@ -2,6 +2,6 @@
 // even count of lower-case hex digits.
 use serve::Program;
 
-fn main() {
-    serve::run(Program::WriteText);
+fn main(rt: HostRuntime) {
+    serve::run(rt.stdin(), Program::WriteText);
 }

@@ -1,0 +1,18 @@
+-- forms_in: one line a need; the laws are in Summing.
+use Prim.Native.Nat.{◌-◌}
+use lib.ListN.{length}
+use borrow.Author.Rules.{rules}
+use Rattle.totals.proofs.Summing as summing
+use Rattle.totals.proofs.forms_in.Goals as goal
+
+pub loop-i-init : goal.loop-i-init
+loop-i-init c = search summing.adding_starts
+
+pub overflow_add-total : goal.overflow_add-total
+overflow_add-total c = search summing.adding_fits
+
+pub loop-i-preserved : goal.loop-i-preserved
+loop-i-preserved c = search summing.adding_next
+
+pub returns : goal.returns
+returns c = search summing.adding_ends
