@@ -1,0 +1,14 @@
+-- work_in: one line a need; the laws are in Listing.
+use borrow.Author.Rules.{rules}
+use Rattle.savings.proofs.Listing as listing
+use mathlib.Core.Path.{refl}
+use Rattle.savings.proofs.work_in.Goals as goal
+
+pub returns-in-Full : goal.returns-in-Full
+returns-in-Full c = (search listing.worked_full, refl, refl)
+
+pub returns-in-Answered : goal.returns-in-Answered
+returns-in-Answered c = (search listing.worked_answered, refl, refl)
+
+pub returns-in-Refused : goal.returns-in-Refused
+returns-in-Refused c = (search listing.worked_refused, refl, refl)
