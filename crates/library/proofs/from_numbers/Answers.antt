@@ -1,0 +1,7 @@
+-- from_numbers: each number in its place.
+use borrow.Author.Rules.{rules}
+use Rattle.library.proofs.Totals as totals
+use Rattle.library.proofs.from_numbers.Goals as goal
+
+pub returns : goal.returns
+returns c = totals.savings_are _

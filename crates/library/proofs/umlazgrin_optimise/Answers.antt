@@ -1,0 +1,10 @@
+-- umlazgrin_optimise: an answer for each need; what carries weight stands in the laws.
+use Rattle.library.proofs.Reports as laws
+use borrow.Author.Rules.{rules}
+use Rattle.library.proofs.umlazgrin_optimise.Goals as goal
+
+pub returns-in-Refused : goal.returns-in-Refused
+returns-in-Refused c = search laws.optimise_refused
+
+pub returns-in-Answered : goal.returns-in-Answered
+returns-in-Answered c = search laws.optimise_done

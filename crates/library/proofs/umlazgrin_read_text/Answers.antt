@@ -1,0 +1,10 @@
+-- umlazgrin_read_text: an answer for each need; what carries weight stands in the laws.
+use Rattle.library.proofs.Reports as laws
+use borrow.Author.Rules.{rules}
+use Rattle.library.proofs.umlazgrin_read_text.Goals as goal
+
+pub returns-in-Refused : goal.returns-in-Refused
+returns-in-Refused c = search laws.write_refused
+
+pub returns-in-Written : goal.returns-in-Written
+returns-in-Written c = search laws.write_done

@@ -1,0 +1,16 @@
+-- print_written: by what `write_text` says.
+use borrow.Author.Rules.{rules}
+use Rattle.text_line.proofs.Laws as laws
+use Rattle.text_line.proofs.print_written.Goals as goal
+
+pub slice_bounds-print_ok-end : goal.slice_bounds-print_ok-end
+slice_bounds-print_ok-end c = search laws.written_fits
+
+pub slice_bounds-print_ok-end-in-Written : goal.slice_bounds-print_ok-end-in-Written
+slice_bounds-print_ok-end-in-Written c = search laws.written_count
+
+pub returns-in-Refused : goal.returns-in-Refused
+returns-in-Refused c = search laws.written_no
+
+pub returns-in-Written : goal.returns-in-Written
+returns-in-Written c = search laws.written_line
