@@ -1,7 +1,7 @@
 -- The number at the room's end: times and plus, bytes before it, one less, every bit turned. Assumes nothing.
 use Prim.Native.Nat.{ℕ, zero, suc, ◌+◌, ◌-◌, ◌*◌, ◌/◌, ◌%◌, ◌^◌, ◌≤◌, ◌<◌}
 use mathlib.Core.Path.{◌≡◌, refl, sym, ◌∙◌, ap, ap₂}
-use mathlib.Core.List.{List, [], ◌∷◌}
+use mathlib.Core.List.{List, ◌∷◌}
 use native.Mathlib.Nat.{pow-succ', pow-le-pow_right, one-le-pow}
 use native.Mathlib.Omega.{arith}
 use lib.Arith.{digits_lt}

@@ -1,4 +1,6 @@
 // `optimize_sexp_`: the driver's loop, and the rules that call it.
+#![tactic(auto)]
+
 ghost use Rattle.std.specs.Prelude.{◌≡◌, true, false, ◌+◌, ◌≤◌, ◌<◌, length};
 ghost use Rattle.meaning.specs.Limits.{nesting_limit, height_at};
 ghost use Rattle.meaning.specs.Rules.{settle, var_change_optimizer_cons_eval, children_optimizer};

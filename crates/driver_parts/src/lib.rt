@@ -1,4 +1,6 @@
 // What the driver does between its calls of itself.
+#![tactic(auto)]
+
 ghost use Rattle.std.specs.Prelude.{◌≡◌, ◌||◌};
 ghost use Rattle.meaning.specs.Meter.{done, give};
 ghost use Rattle.meaning.specs.Rules.{non_constant};

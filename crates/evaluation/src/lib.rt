@@ -1,4 +1,6 @@
 // The evaluator on bytes alone: the program's form and the environment's stand one after the other in one lent slice.
+#![tactic(auto)]
+
 ghost use Rattle.std.specs.Prelude.{◌≤◌, length, take, drop};
 ghost use Rattle.meaning.specs.Limits.{room_least};
 ghost use Rattle.meaning.specs.Outcome.{Delivers, Settles};

@@ -1,4 +1,6 @@
 // The nine operators of the evaluator on nodes, with 4,096 steps for an evaluation and the run's units.
+#![tactic(auto)]
+
 ghost use Rattle.std.specs.Prelude.{◌≡◌};
 ghost use Rattle.meaning.specs.Tree.{pair, proper_list};
 ghost use Rattle.meaning.specs.Number.{number, lookup};

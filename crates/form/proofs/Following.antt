@@ -2,7 +2,7 @@
 use mathlib.Core.Path.{◌≡◌, refl, sym, ◌∙◌, ap}
 use mathlib.Core.List.{List, [], ◌∷◌, ◌++◌}
 use mathlib.Core.Bool.{Bool, true, false, ◌&&◌}
-use Prim.Native.Nat.{ℕ, zero, suc, ◌+◌, ◌-◌, ◌^◌, ◌<◌, ◌≤◌}
+use Prim.Native.Nat.{ℕ, suc, ◌+◌, ◌-◌, ◌^◌, ◌<◌, ◌≤◌}
 use native.Mathlib.Omega.{arith}
 use native.Mathlib.Decide.{dec_le}
 use lib.Dec.{eqb, leb, ltb}
@@ -11,7 +11,7 @@ use lib.Seq.{drop-cons, drop-drop, take_at, take_all, length-take-le}
 use mir.Syntax.{w64}
 use mir.Val.{Fits}
 use borrow.Author.Tests.{lt-ltb, eq-eqb, ne_eqb}
-use Rattle.meaning.specs.Tree.{Tree, atom, pair, same_bytes}
+use Rattle.meaning.specs.Tree.{atom, same_bytes}
 use Rattle.meaning.specs.Form.{write, write_length, write_atom}
 use Rattle.meaning.proofs.Tests.{on_bool, leb_yes, not_true}
 use Rattle.store.specs.declared.Cell.{Cell}

@@ -10,7 +10,7 @@ use borrow.Author.Tests.{ltb-true, ltb-false, le-leb, eq-eqb, ne_eqb, eqb-true, 
 use Rattle.refusals.specs.declared.Refusal.TheVariants.{UnitsOut}
 use Rattle.meaning.specs.Tree.{Tree, pair}
 use Rattle.meaning.specs.Limits.{unit_limit, pair_cost}
-use Rattle.meaning.specs.Meter.{Out, done, stop, M, ◌>>=◌, ◌>>◌, give}
+use Rattle.meaning.specs.Meter.{Out, done, stop, M, ◌>>=◌, give}
 use Rattle.meaning.specs.Form.{Reading, limits, spend}
 use Rattle.meaning.proofs.Tests.{on_bool}
 use Rattle.meaning.proofs.MeterLaws.{bind_at, seq_at}

@@ -1,4 +1,6 @@
 // The serialised form: reading it into the store, writing a node, and both on bytes alone.
+#![tactic(auto)]
+
 ghost use Rattle.std.specs.Prelude.{◌≡◌, [], ◌∷◌, ◌++◌, true, ◌+◌, ◌-◌, ◌≤◌, ◌<◌, length, take, drop, get_or};
 ghost use Rattle.meaning.specs.Limits.{form_limit, room_least};
 ghost use Rattle.meaning.specs.Form.{limits, more, length_from, needs_prefix, read_long, write_atom, write};

@@ -1,4 +1,6 @@
 // Lends rooms and outputs of several lengths, none of them clean, and prints what they hold after.
+#![tactic(auto)]
+
 ghost use Rattle.std.specs.Prelude.{◌≤◌};
 
 use form::{ReadAnswer, WriteAnswer};

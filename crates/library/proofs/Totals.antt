@@ -8,7 +8,6 @@ use lib.ListN.{get_or}
 use Rattle.refusals.specs.declared.Refusal.{Refusal}
 use Rattle.refusals.specs.declared.Refusal.TheVariants.{ReportFull}
 use Rattle.refusals.specs.Numbers.{number_of}
-use Rattle.meaning.specs.Outcome.{answered, refused}
 use Rattle.totals.specs.declared.Savings.{Savings}
 use Rattle.totals.specs.declared.Column.{Column}
 use Rattle.totals.specs.declared.Column.TheVariants.{Answered, Refused, Full}

@@ -1,5 +1,7 @@
 // The functions of the static library, for C and Rust: the public ones, with answers as numbers. Each returns 0 for an answer and
 // the number of a refusal; a report is written through an array of its own, since neither an enum nor a struct is a result in C.
+#![tactic(auto)]
+
 ghost use Rattle.std.specs.Prelude.{◌≡◌, length, []};
 ghost use Rattle.meaning.specs.Run.{run};
 ghost use Rattle.form.specs.Bytes as forms;

@@ -1,5 +1,7 @@
 // The outcome of a match as one line of text: `ok` and each name's bytes, `=` and the tree that it is bound to; `no match` and the place; `too many
 // names`; or `no` and the refusal's number.
+#![tactic(auto)]
+
 ghost use Rattle.std.specs.Prelude.{◌+◌, ◌≤◌, length};
 ghost use Rattle.meaning.specs.Limits.{path_limit};
 ghost use Rattle.meaning.specs.Number.{number, bytes_of};

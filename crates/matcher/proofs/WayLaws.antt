@@ -8,7 +8,7 @@ use lib.ListN.{length, take, drop, replicate, length-append, length-drop, drop_o
 use lib.Seq.{take_all}
 use Rattle.meaning.specs.Tree.{atom, pair}
 use Rattle.meaning.specs.Limits.{place_turns}
-use Rattle.meaning.specs.Number.{number, turns, onto, compose_paths, bytes_of}
+use Rattle.meaning.specs.Number.{number, onto, compose_paths, bytes_of}
 use Rattle.meaning.specs.Match as meaning
 use Rattle.meaning.proofs.Tests.{leb_true, leb_no}
 use Rattle.meaning.proofs.Verdict.{IsNo, is_matched, is_failed, is_third, in_part_verdict}

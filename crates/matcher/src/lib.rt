@@ -1,4 +1,6 @@
 // The matcher on bytes alone: the pattern's form and the expression's stand one after the other in one lent slice.
+#![tactic(auto)]
+
 mod way;
 
 ghost use Rattle.std.specs.Prelude.{◌≡◌, [], ◌++◌, ◌+◌, ◌≤◌, length, take, drop};

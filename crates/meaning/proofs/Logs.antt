@@ -1,11 +1,11 @@
 -- The log changes nothing else: with a log, a run does what it does without, and what it adds depends on what is spent alone. Assumes nothing.
-use Prim.Native.Nat.{ℕ, zero, suc, ◌+◌}
+use Prim.Native.Nat.{ℕ, zero, suc}
 use mathlib.Core.Path.{◌≡◌, refl, sym, ◌∙◌, ap}
 use mathlib.Core.List.{[], ◌∷◌, ◌++◌, append-nil, append_assoc}
 use Rattle.refusals.specs.declared.Refusal.{Refusal}
 use Rattle.meaning.specs.Tree.{Tree}
 use Rattle.meaning.specs.Limits.{pass_limit}
-use Rattle.meaning.specs.Meter.{M, W, Out, done, stop, Spent, alone, Log, Logged, and_log, logged, log_of, log_from, ◌>>=◌, ◌>>◌, give, refuse}
+use Rattle.meaning.specs.Meter.{M, W, Out, done, stop, Spent, alone, Log, Logged, and_log, logged, log_of, log_from, ◌>>=◌, give, refuse}
 use Rattle.meaning.specs.Driver.{optimize_sexp_over, optimize_sexp, ends}
 use Rattle.meaning.proofs.MeterLaws.{bind_at}
 use Rattle.meaning.proofs.BindLaws.{bind_stop}

@@ -1,5 +1,5 @@
 -- A list that is no shorter than another, and is that other where it is no longer. Assumes nothing.
-use Prim.Native.Nat.{ℕ, ◌+◌, ◌≤◌, ◌<◌}
+use Prim.Native.Nat.{ℕ, ◌≤◌, ◌<◌}
 use mathlib.Core.Path.{◌≡◌, ap, ap₂}
 use mathlib.Core.List.{List, ◌++◌}
 use lib.ListN.{length, length-append}

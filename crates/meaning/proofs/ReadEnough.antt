@@ -8,7 +8,7 @@ use lib.ListN.{length, length-append}
 use native.Mathlib.Omega.{arith}
 use Rattle.refusals.specs.declared.Refusal.TheVariants.{EndsEarly}
 use Rattle.meaning.specs.Tree.{Tree}
-use Rattle.meaning.specs.Meter.{Out, done, stop, M, ◌>>=◌, ◌>>◌, refuse}
+use Rattle.meaning.specs.Meter.{Out, done, stop, M, ◌>>=◌, refuse}
 use Rattle.meaning.specs.Form.{Reading, Bounds, next, first_of, read_atom, read}
 use Rattle.meaning.proofs.ReaderLaws.{at}
 use Rattle.meaning.proofs.WriteRead.{two_parts}

@@ -1,4 +1,6 @@
 // The memo: finished expressions, found by fingerprint and compared by structure, and what a hit charges.
+#![tactic(auto)]
+
 ghost use Rattle.std.specs.Prelude.{◌≡◌, [], suc, ◌<◌, ◌≤◌, length, get_or, set};
 ghost use Rattle.meaning.specs.Limits.{unit_limit, pass_limit};
 ghost use Rattle.store.specs.Cells.{Room};

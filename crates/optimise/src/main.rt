@@ -1,5 +1,7 @@
 // Reads one line of hex and prints its outcome: `ok`, the optimised tree, passes, units and mark; `no` and the refusal's number; or
 // `no line` where it is not an even count of lower-case hex digits. No line at all is the empty form.
+#![tactic(auto)]
+
 ghost use Rattle.std.specs.Prelude.{◌≤◌, length, take};
 ghost use Rattle.meaning.specs.Run.{run};
 ghost use Rattle.lines.specs.Text.{out_most, line_most};
@@ -46,6 +48,13 @@ fn main(rt: HostRuntime) {
     let mut room = [0u8; 65536];
     let mut out = [0u8; 32768];
     let mut text = [0u8; 69632];
-    let r = answer(rt.stdin(), &mut buf, &mut form, &mut room, &mut out, &mut text);
+    let r = answer(
+        rt.stdin(),
+        &mut buf,
+        &mut form,
+        &mut room,
+        &mut out,
+        &mut text,
+    );
     lines::flush(&text, r.put);
 }

@@ -1,5 +1,7 @@
 // For every line of hex one line: `ok`, the optimised tree, passes, units and mark; `no` and the refusal's number; or `no line` where it
 // is not an even count of lower-case hex digits.
+#![tactic(auto)]
+
 use serve::Program;
 
 fn main(rt: HostRuntime) {

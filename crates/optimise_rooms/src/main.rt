@@ -1,6 +1,8 @@
 // What `optimise` leaves of the bytes that are lent to it: rooms short, exact, longer and dirty, and outputs one short, exact and one long.
 // A line says the room's length and what fills it, and the output's length; the answer; how many bytes of the room are not 0 then, and the
 // output, which was filled with ee.
+#![tactic(auto)]
+
 use optimiser::Answer;
 
 // Standard output.

@@ -1,4 +1,6 @@
 // The optimiser on byte slices: a form is read, worked to its end and written.
+#![tactic(auto)]
+
 ghost use Rattle.std.specs.Prelude.{◌≡◌, ◌≤◌, length};
 ghost use Rattle.meaning.specs.Limits.{room_least};
 ghost use Rattle.meaning.specs.Outcome.{ended, Delivers};

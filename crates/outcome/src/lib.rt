@@ -1,4 +1,6 @@
 // The outcomes of `optimise`, `evaluate` and `write` as one line of text each.
+#![tactic(auto)]
+
 ghost use Rattle.std.specs.Prelude.{length};
 ghost use Rattle.meaning.specs.Run.{run};
 ghost use Rattle.evaluation.specs.Bytes.{outcome};

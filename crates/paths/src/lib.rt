@@ -1,4 +1,6 @@
 // casts.rs and node_path.rs: an atom's bytes as a number, paths, and their turns.
+#![tactic(auto)]
+
 mod casts;
 mod node_path;
 mod path_rule;

@@ -4,6 +4,8 @@
 //   03  the path rule's longer path: `misread` where the index is not the unsigned number, `too long` where it has over 64 bytes
 //   04  the turns, `l` and `r`: `low` for a signed number of 0 or less, `fewer` where substitution takes fewer of them
 // Bytes are printed in hex, and `-` where there are none. A line that is no such row, or has over 64 bytes, prints `no row`.
+#![tactic(auto)]
+
 ghost use Rattle.std.specs.Prelude.{◌≤◌, length};
 ghost use Rattle.lines.specs.Text.{line_most};
 

@@ -1,4 +1,6 @@
 // pattern_match.rs: any node may be the pattern; at most two names.
+#![tactic(auto)]
+
 ghost use Rattle.std.specs.Prelude.{◌≡◌, ◌&&◌, []};
 ghost use Rattle.meaning.specs.Match as meaning;
 ghost use Rattle.meaning.specs.Tree.{pair, same_bytes};

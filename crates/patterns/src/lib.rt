@@ -1,4 +1,6 @@
 // The rules' patterns as nodes, laid once and free of units, below the form's.
+#![tactic(auto)]
+
 ghost use Rattle.std.specs.Prelude.{◌+◌, ◌≤◌, length};
 ghost use Rattle.meaning.specs.Tree.{atom, pair, nil, byte};
 ghost use Rattle.meaning.specs.Substitute.{cons_pattern};

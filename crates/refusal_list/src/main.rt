@@ -1,4 +1,6 @@
 // Prints each refusal's number and, in the words of documents 01 and 02, when it is given.
+#![tactic(auto)]
+
 use refusals::Refusal;
 
 fn line(r: Refusal, words: &[u8]) {

@@ -1,4 +1,6 @@
 // The refusals of documents 01 and 02, by name. Every layer answers with these; the numbers are given in one place.
+#![tactic(auto)]
+
 ghost use Rattle.std.specs.Prelude.{◌≡◌};
 ghost use Rattle.refusals.specs.Numbers.{number_of};
 

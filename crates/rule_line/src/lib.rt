@@ -1,5 +1,7 @@
 // One rule on a form, and what it makes of it as one line of text: `same`, units and mark; `changed`, the new tree, units and mark; or
 // `no` and the refusal's number.
+#![tactic(auto)]
+
 ghost use Rattle.std.specs.Prelude.{◌≡◌, ◌≤◌, ◌<◌, length};
 ghost use Rattle.meaning.specs.Limits.{room_least};
 ghost use Rattle.store.specs.Nodes.{tree_in};

@@ -1,4 +1,6 @@
 // optimize.rs: the rules that do not call the driver, on nodes. Each says unchanged, changed to a node, or stopped by a refusal.
+#![tactic(auto)]
+
 ghost use Rattle.std.specs.Prelude.{◌≡◌, [], false, ◌≤◌};
 ghost use Rattle.meaning.specs.Match.{match_sexp, got};
 ghost use Rattle.meaning.specs.Tree.{is_quote};

@@ -1,4 +1,6 @@
 // A run's state: what it has spent and what its last piece of work said, how far its memo is filled, and what it notes.
+#![tactic(auto)]
+
 ghost use Rattle.std.specs.Prelude.{◌≡◌, ◌<◌, ◌≤◌, length};
 ghost use Rattle.run_state.specs.Notes.{count_records, one_more, noted, count_in};
 ghost use Rattle.run_state.specs.Work.{with_last, marked_work, work_made};

@@ -1,6 +1,8 @@
 // For a list of forms, one a line of hex, a report: how many there are, answered, refused by each number and marked; bytes before and
 // after; the most passes; how often each rule ended a pass. `no line` at once for a line that is not an even count of lower-case hex
 // digits. A 4,097th form ends the list: the report, and `no 17`.
+#![tactic(auto)]
+
 ghost use Rattle.std.specs.Prelude.{◌≡◌, ◌≤◌, ◌++◌, length};
 ghost use Rattle.lines.specs.Text.{line_most, Printed, numbers_line};
 ghost use Rattle.savings.specs.Report.{refused_text, totals_text, report_text, last_text, Worked, Turned};

@@ -1,4 +1,6 @@
 // optimize.rs, `seems_constant` and `seems_constant_tail`. What was found at a pair is remembered in its kind byte.
+#![tactic(auto)]
+
 ghost use Rattle.meaning.specs.Constant.{seems_constant, seems_constant_tail};
 ghost use Rattle.store.specs.Nodes.{tree_in};
 ghost use Rattle.store.specs.Store.{Ready};

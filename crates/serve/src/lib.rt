@@ -1,4 +1,6 @@
 // The programs that answer all of their input, line by line: one loop for all, and one choice of what answers.
+#![tactic(auto)]
+
 ghost use Rattle.std.specs.Prelude.{◌≤◌, length};
 ghost use Rattle.meaning.specs.Limits.{room_least};
 ghost use Rattle.lines.specs.Text.{Printed};
@@ -65,7 +67,14 @@ fn takes_two(which: Program) -> bool {
 }
 
 // The next line, or the next two where the program takes two.
-fn next(input: Stdin, which: Program, buf: &mut [u8], forms: &mut [u8], text: &[u8], s: Lines) -> Lines
+fn next(
+    input: Stdin,
+    which: Program,
+    buf: &mut [u8],
+    forms: &mut [u8],
+    text: &[u8],
+    s: Lines,
+) -> Lines
     ensures { Came forms.new s result }
 {
     let how = spelling(which);
@@ -164,5 +173,7 @@ pub fn run(input: Stdin, which: Program) {
     let mut room = [0u8; 65536];
     let mut out = [0u8; 32768];
     let mut text = [0u8; 69632];
-    turns(input, which, &mut buf, &mut forms, &mut room, &mut out, &mut text);
+    turns(
+        input, which, &mut buf, &mut forms, &mut room, &mut out, &mut text,
+    );
 }

@@ -1,4 +1,6 @@
 // sexp.rs over the store: tests on nodes, lists, quotes and equality of structure.
+#![tactic(auto)]
+
 ghost use Rattle.std.specs.Prelude.{◌≡◌, map, not, ◌+◌, ◌*◌, ◌-◌, ◌<◌, take, eqb};
 ghost use Rattle.meaning.specs.Tree.{quote, is_byte, same_bytes, equal_to, non_nil};
 ghost use Rattle.meaning.specs.Substitute.{is_proper};

@@ -1,5 +1,5 @@
 -- Remembering an answer in a node's kind byte, or the same node in a pair's record, keeps every tree and the store.
-use Rattle.std.proofs.Common.{◌≡◌, ℕ, ◌+◌, ◌-◌, ◌*◌, ◌/◌, ◌%◌, ◌<◌, ◌≤◌, Bool, true, false, eqb, List, length, get_or, set, refl, ◌∙◌, arith, get_or-set_other, get_or-set_same}
+use Rattle.std.proofs.Common.{◌≡◌, ℕ, ◌+◌, ◌*◌, ◌/◌, ◌%◌, ◌<◌, ◌≤◌, Bool, true, false, eqb, List, length, get_or, set, refl, ◌∙◌, arith, get_or-set_other, get_or-set_same}
 use Rattle.meaning.specs.Constant.{seems_constant, seems_constant_tail}
 use Rattle.store.specs.declared.Cell.{Cell}
 use Rattle.store.specs.declared.Cell.TheVariants.{Pair, Atom}

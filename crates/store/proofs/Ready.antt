@@ -1,5 +1,5 @@
 -- What a node of the store allows: reading it, going to its parts, its fingerprint, its same node; and what a change keeps.
-use Rattle.std.proofs.Common.{◌≡◌, ℕ, ◌+◌, ◌-◌, ◌<◌, ◌≤◌, eqb, List, length, sym, refl, ◌∙◌, arith, length-take}
+use Rattle.std.proofs.Common.{◌≡◌, ℕ, ◌+◌, ◌<◌, ◌≤◌, eqb, List, length, sym, refl, ◌∙◌, arith, length-take}
 use Rattle.meaning.specs.Tree.{atom, pair}
 use Rattle.meaning.specs.Constant.{seems_constant, seems_constant_tail}
 use Rattle.store.specs.declared.Cell.{Cell}

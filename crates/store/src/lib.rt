@@ -1,5 +1,7 @@
 // Records in the first 65,536 bytes of a lent room. A node's number is its record's place; node 0 is nil.
 // Reading is total: a pair is a pair only where both parts are numbered below it.
+#![tactic(auto)]
+
 ghost use Rattle.std.specs.Prelude.{◌≡◌, ◌+◌, ◌-◌, ◌*◌, ◌/◌, ◌%◌, ◌<◌, ◌≤◌, length, take, drop};
 ghost use Rattle.meaning.specs.Tree.{atom, pair};
 ghost use Rattle.meaning.specs.Limits.{unit_limit, pair_cost, atom_cost};

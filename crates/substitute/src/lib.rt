@@ -1,4 +1,6 @@
 // optimize.rs, `sub_args` and what it calls, on nodes. Low atoms are noted on the way.
+#![tactic(auto)]
+
 ghost use Rattle.std.specs.Prelude.{◌≡◌, true, false, ◌||◌, ◌+◌, ◌<◌, length, get_or};
 ghost use Rattle.meaning.specs.Tree.{pair, nil, byte};
 ghost use Rattle.meaning.specs.Limits.{pair_cost};

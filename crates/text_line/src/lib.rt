@@ -1,5 +1,7 @@
 // The outcomes of `read_text`, `write_text`, `optimise_text`, `evaluate_text` and `text_fault` as one line of text each. A tree that is written as text
 // is printed as it stands.
+#![tactic(auto)]
+
 ghost use Rattle.std.specs.Prelude.{length};
 ghost use Rattle.lines.specs.Text.{Printed};
 ghost use Rattle.outcome.specs.Line.{line_of};

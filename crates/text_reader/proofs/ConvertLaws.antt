@@ -30,7 +30,7 @@ use Rattle.text_reader.specs.declared.convert.Ending.TheVariants.{Whole as whole
 use Rattle.text_reader.specs.Forms.{Emitted, Stands}
 use Rattle.text_reader.specs.Tokens.{spots_at, signs_at, OneToken, one_token}
 use Rattle.text_reader.specs.Turns.{stack_in, Fair, Comes, comes, GoesOn, EndsWell, NoText, TurnOk}
-use Rattle.text_reader.specs.Converts.{Converts, NotConverted, ConvertedOk, Located, FaultOk, all_of, Ends, ends, Reached, reached, StopsAt, EndingOk, begun, finished}
+use Rattle.text_reader.specs.Converts.{NotConverted, ConvertedOk, Located, FaultOk, all_of, Ends, ends, Reached, reached, StopsAt, EndingOk, begun, finished}
 use Rattle.text_reader.proofs.EmitLaws.{nothing_emitted}
 use Rattle.text_reader.proofs.Grows.{onward, grows}
 use Rattle.text_reader.proofs.First.{as_definition}

@@ -2,13 +2,12 @@
 use mathlib.Core.Path.{◌≡◌, refl, sym, ◌∙◌, ap, subst}
 use mathlib.Core.List.{List, [], ◌∷◌, ◌++◌, append-nil, append_assoc}
 use mathlib.Core.Bool.{Bool, true, false}
-use mathlib.Core.Option.{Option, none, some}
+use mathlib.Core.Option.{none, some}
 use Prim.Native.Nat.{ℕ, zero, suc, ◌+◌, ◌-◌, ◌<◌, ◌≤◌}
 use native.Mathlib.Omega.{arith}
 use lib.Dec.{eqb}
 use lib.ListN.{length, get_or, set, take, drop, length-set, length-drop}
 use lib.Seq.{get_or-set_same, get_or-set_other, take-length}
-use native.Mathlib.Numerals.{add-one}
 use borrow.Author.Tests.{eq-eqb, ne_eqb}
 use Rattle.meaning.specs.Tree.{atom, is_byte}
 use Rattle.meaning.specs.Limits.{form_limit}
@@ -34,7 +33,7 @@ use Rattle.text_reader.specs.declared.machine.Wanted.{Wanted}
 use Rattle.text_reader.specs.declared.machine.Wanted.TheVariants.{Atom, No as no-atom}
 use Rattle.text_reader.specs.Forms.{Emitted, Emits, pair_byte}
 use Rattle.text_reader.specs.Machine.{Next, on, no, want_of, back, on_opening, pop, on_closing, on_atom, on_word, place_of}
-use Rattle.text_reader.specs.Turns.{opening_of, place_after, wanted_after, stack_in, leads, Moved, StepOk, LeadsOn, leads_on, Passed, NotPassed, PassOk, AtomOk, LongOk, WordOk, Popped, NotPopped, PopOk, dotted, end_turn, turn_of}
+use Rattle.text_reader.specs.Turns.{opening_of, place_after, wanted_after, stack_in, leads, StepOk, LeadsOn, leads_on, PassOk, AtomOk, LongOk, WordOk, PopOk, dotted, end_turn, turn_of}
 use Rattle.text_reader.proofs.EmitLaws.{emits_none, part_over}
 
 -- ---- leaves

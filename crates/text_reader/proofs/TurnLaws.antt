@@ -12,8 +12,6 @@ use Rattle.meaning.specs.Meter.{Out, stop}
 use Rattle.notation.specs.Texts.{text_limit}
 use Rattle.notation.specs.Grammar.{opening, closing, dot, wrong, word, quoted, spot, signs}
 use Rattle.notation.specs.Grammar.{Token as Sign}
-use Rattle.notation.specs.declared.Place.{Place}
-use Rattle.text_reader.specs.declared.emit.Grown.{Grown}
 use Rattle.text_reader.specs.declared.scan.Token.{Token}
 use Rattle.text_reader.specs.declared.scan.Token.TheVariants.{End, Open, Close, Dot, Word, Quoted, Wrong}
 use Rattle.text_reader.specs.declared.machine.Want.{Want}
@@ -22,11 +20,10 @@ use Rattle.text_reader.specs.declared.machine.Reading.{Reading}
 use Rattle.text_reader.specs.declared.machine.Step.{Step}
 use Rattle.text_reader.specs.declared.machine.Step.TheVariants.{On, NoParse}
 use Rattle.text_reader.specs.declared.machine.Turn.{Turn}
-use Rattle.text_reader.specs.declared.machine.Turn.TheVariants.{Goes, Done, Fails}
+use Rattle.text_reader.specs.declared.machine.Turn.TheVariants.{Fails}
 use Rattle.text_reader.specs.Tokens.{between, spots_at, signs_at, one_token, Signed, Worded, InQuotes, Ended, Broken, TokenOk}
-use Rattle.text_reader.specs.Forms.{Emitted}
 use Rattle.text_reader.specs.Machine.{Next, on, no, on_opening, on_closing, on_dot, on_atom, on_word, on_token, at_end, run}
-use Rattle.text_reader.specs.Turns.{stack_in, Leads, leads, Moved, Stuck, StepOk, LeadsOn, leads_on, Passed, NotPassed, PassOk, AtomOk, WordOk, dotted, end_turn, turn_of, Fair, Comes, comes, GoesOn, EndsWell, NoText, TurnOk}
+use Rattle.text_reader.specs.Turns.{stack_in, Leads, leads, StepOk, LeadsOn, leads_on, PassOk, AtomOk, WordOk, dotted, end_turn, turn_of, Fair, Comes, comes, NoText, TurnOk}
 
 -- ---- steps that look at no open list
 

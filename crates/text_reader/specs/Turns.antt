@@ -1,9 +1,8 @@
 -- What the machine's functions promise: the definition's step, with the open lists in the frames and the form so far in the form.
-use Rattle.std.specs.Prelude.{ℕ, zero, suc, ◌+◌, ◌≤◌, ◌<◌, ◌≡◌, List, [], ◌∷◌, ◌++◌, Bool, true, false, length, get_or}
+use Rattle.std.specs.Prelude.{ℕ, zero, suc, ◌+◌, ◌≤◌, ◌<◌, ◌≡◌, List, [], ◌∷◌, Bool, true, false, length, get_or}
 use Rattle.meaning.specs.Limits.{form_limit}
 use Rattle.refusals.specs.declared.Refusal.TheVariants.{NoParse as not-parsed}
 use Rattle.meaning.specs.Meter.{Out, done, stop}
-use Rattle.meaning.specs.Form.{write_atom}
 use Rattle.notation.specs.declared.Place.{Place}
 use Rattle.notation.specs.declared.Place.TheVariants.{Operator, Code, Data}
 use Rattle.notation.specs.Texts.{head_in}

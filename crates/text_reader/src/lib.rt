@@ -1,4 +1,6 @@
 // From text to the serialised form: tokens, words, and a machine over tokens that needs no recursion.
+#![tactic(auto)]
+
 mod convert;
 mod emit;
 mod machine;

@@ -6,7 +6,7 @@ use Prim.Native.Nat.{ℕ}
 use native.Mathlib.Omega.{arith}
 use lib.ListN.{get_or, length}
 use lib.Dec.{eqb}
-use Rattle.meaning.specs.Tree.{Tree, atom, is_byte}
+use Rattle.meaning.specs.Tree.{Tree, is_byte}
 use Rattle.store.specs.declared.Cell.{Cell}
 use Rattle.store.specs.declared.Cell.TheVariants.{Pair, Atom}
 use Rattle.store.specs.Cells.{cell_at, bytes_at}

@@ -11,7 +11,7 @@ use Rattle.meaning.specs.Tree.{Tree}
 use Rattle.meaning.specs.Limits.{room_least}
 use Rattle.meaning.specs.Meter.{Out, done, stop}
 use Rattle.meaning.specs.Form.{Reading, read_form, IsBytes}
-use Rattle.meaning.specs.Outcome.{plain, Outcome, answered, refused, deliver, ended, in_room, Settles}
+use Rattle.meaning.specs.Outcome.{plain, answered, refused, deliver, ended, in_room, Settles}
 use Rattle.meaning.proofs.Lent.{told_answer}
 use Rattle.form.specs.declared.WriteAnswer.TheVariants.{Written}
 use Rattle.form.specs.Bytes.{write_outcome, write_says}

@@ -1,4 +1,6 @@
 // The notation on byte slices: text to the serialised form and back, and optimising and evaluating from text to text.
+#![tactic(auto)]
+
 ghost use Rattle.std.specs.Prelude.{◌≡◌, ◌≤◌, [], ◌∷◌, length, take, drop};
 ghost use Rattle.meaning.specs.Limits.{room_least, form_limit};
 ghost use Rattle.meaning.specs.Outcome.{ended, Delivers, Settles};

@@ -1,4 +1,6 @@
 // Savings over a list of forms: a running report, into which one form after another is worked.
+#![tactic(auto)]
+
 ghost use Rattle.std.specs.Prelude.{◌≡◌, ◌+◌, ◌^◌, ◌<◌, ◌≤◌, length, true};
 ghost use Rattle.refusals.specs.Numbers.{number_of};
 ghost use Rattle.meaning.specs.Outcome.{ended};

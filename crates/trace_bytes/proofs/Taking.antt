@@ -12,7 +12,7 @@ use borrow.Author.Tests.{le-leb, lt-leb, eq-eqb, not-true, not-false}
 use Rattle.refusals.specs.declared.Refusal.TheVariants.{NotATrace, TraceCut, TraceLong}
 use Rattle.meaning.specs.Tree.{same_bytes}
 use Rattle.meaning.specs.Limits.{trace_limit}
-use Rattle.meaning.specs.Trace.{trace_start, taken, not_taken, entries_of, unless_cut, take_form, take_trace}
+use Rattle.meaning.specs.Trace.{trace_start, not_taken, entries_of, unless_cut, take_form, take_trace}
 use Rattle.meaning.proofs.Tests.{on_bool}
 use Rattle.meaning.proofs.TreeLaws.{same_bytes_sound}
 use Rattle.trace_bytes.specs.declared.Taken.TheVariants.{Form, Refused}

@@ -1,4 +1,6 @@
 // The bytes of a trace: `CLT`, a version, the form behind its length, entries, and the counts.
+#![tactic(auto)]
+
 ghost use Rattle.std.specs.Prelude.{◌≡◌, ◌++◌, ◌+◌, ◌≤◌, ◌<◌, length, take, drop};
 ghost use Rattle.meaning.specs.Tree.{same_bytes};
 ghost use Rattle.meaning.specs.Trace.{two_bytes, four_bytes, trace_start};

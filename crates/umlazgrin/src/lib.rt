@@ -1,4 +1,6 @@
 // The public functions, on byte slices, and the types of their answers: nothing else is exported.
+#![tactic(auto)]
+
 pub use evaluation::{EvalAnswer, evaluate};
 pub use form::{ReadAnswer, WriteAnswer, read, write};
 pub use matcher::{MatchAnswer, Matching, Parts, matches};

@@ -1,5 +1,4 @@
 -- `decimals::before` meets its contract. The invariant: what is left of n would stand before index i. Assumes nothing.
-use borrow.Author.Rules.{rules}
 use Rattle.decimals.proofs.RoomLaws as laws
 use Rattle.decimals.proofs.before.Goals as goal
 

@@ -1,6 +1,4 @@
 -- `decimals::chunk` meets its contract. The invariant: n is what the digits from at to i say. Assumes nothing.
-use Prim.Native.Nat.{◌-◌}
-use borrow.Author.Rules.{rules}
 use Rattle.decimals.proofs.DigitLaws as laws
 use Rattle.decimals.proofs.chunk.Goals as goal
 

@@ -1,7 +1,4 @@
 -- `decimals::digits_from` meets its contract. The invariant: there are digits only from at to i. Assumes nothing.
-use Prim.Native.Nat.{◌-◌}
-use lib.ListN.{length}
-use borrow.Author.Rules.{rules}
 use Rattle.decimals.proofs.DigitLaws as laws
 use Rattle.decimals.proofs.digits_from.Goals as goal
 

@@ -1,5 +1,4 @@
 -- `decimals::extended` meets its contract. Assumes nothing.
-use borrow.Author.Rules.{rules}
 use Rattle.decimals.proofs.RoomLaws as laws
 use Rattle.decimals.proofs.extended.Goals as goal
 

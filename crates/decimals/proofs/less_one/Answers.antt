@@ -1,5 +1,4 @@
 -- `decimals::less_one` meets its contract. The invariant: the bytes from index i on were 0 and are ff. Assumes nothing.
-use borrow.Author.Rules.{rules}
 use Rattle.decimals.proofs.RoomLaws as laws
 use Rattle.decimals.proofs.less_one.Goals as goal
 

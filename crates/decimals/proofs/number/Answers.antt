@@ -1,6 +1,4 @@
 -- `decimals::number` meets its contract. The invariant: the digits from i on, after the number in the room, say what all digits say. Assumes nothing.
-use Prim.Native.Nat.{◌-◌}
-use lib.ListN.{length}
 use borrow.Author.Rules.{rules}
 use Rattle.decimals.proofs.WordLaws as laws
 use Rattle.decimals.proofs.number.Goals as goal

@@ -1,5 +1,4 @@
 -- `decimals::past_zero` meets its contract. Assumes nothing.
-use borrow.Author.Rules.{rules}
 use Rattle.decimals.proofs.RoomLaws as laws
 use Rattle.decimals.proofs.past_zero.Goals as goal
 

@@ -1,6 +1,5 @@
 -- `decimals::power` meets its contract. The invariant: p is ten to the power i. Assumes nothing.
 use Prim.Native.Nat.{◌-◌}
-use borrow.Author.Rules.{rules}
 use Rattle.decimals.proofs.DigitLaws as laws
 use Rattle.decimals.proofs.power.Given as goal
 

@@ -1,5 +1,4 @@
 -- `decimals::times_plus` meets its contract. The invariant: from index i on the number is m times itself and d more, with what runs over in carry. Assumes nothing.
-use borrow.Author.Rules.{rules}
 use Rattle.decimals.proofs.RoomLaws as laws
 use Rattle.decimals.proofs.times_plus.Given as goal
 

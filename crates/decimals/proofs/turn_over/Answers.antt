@@ -1,5 +1,4 @@
 -- `decimals::turn_over` meets its contract. The invariant: the bytes from index i on are turned over. Assumes nothing.
-use borrow.Author.Rules.{rules}
 use Rattle.decimals.proofs.RoomLaws as laws
 use Rattle.decimals.proofs.turn_over.Goals as goal
 

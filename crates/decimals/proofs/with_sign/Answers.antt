@@ -1,5 +1,4 @@
 -- `decimals::with_sign` meets its contract. Assumes nothing.
-use borrow.Author.Rules.{rules}
 use Rattle.decimals.proofs.SignLaws as laws
 use Rattle.decimals.proofs.with_sign.Goals as goal
 

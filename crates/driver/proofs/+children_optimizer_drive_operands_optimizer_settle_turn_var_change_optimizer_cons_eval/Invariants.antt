@@ -1,26 +1,17 @@
 -- The one proof of the driver's cycle: one line a need; the laws are in driver_parts, Keeping and Changing.
-use mathlib.Core.Path.{◌≡◌, refl, ◌∙◌}
+use mathlib.Core.Path.{◌≡◌}
 use lib.ListN.{length}
-use Prim.Native.Nat.{ℕ, ◌+◌, ◌-◌, ◌*◌, ◌<◌}
-use borrow.Author.Rules.{rules}
-use native.Mathlib.Omega.{arith}
+use Prim.Native.Nat.{◌+◌, ◌-◌, ◌*◌}
 use Rattle.meaning.specs.Limits.{pass_limit, height_at}
 use Rattle.meaning.specs.Driver.{ends}
 use Rattle.meaning.proofs.LogSteps.{ends_over, pass_ends}
 use Rattle.store.specs.Nodes.{tree_at}
-use Rattle.driver_parts.proofs.Choosing as choosing
 use Rattle.driver_parts.proofs.Chunk as chunk
-use Rattle.driver_parts.proofs.Kept as kept
 use Rattle.driver_parts.proofs.Looping as looping
-use Rattle.driver_parts.proofs.Settling as settling
 use Rattle.driver_parts.proofs.Turning as turning
-use Rattle.driver.proofs.Changing as changing
-use Rattle.driver.proofs.Keeping as keeping
-use Rattle.driver.proofs.Logging as logging
 use Rattle.run_state.specs.Work.{spent_of}
 use Rattle.run_state.specs.State.{Valid}
-use Rattle.run_state.proofs.Entries as entries
-use Rattle.run_state.proofs.Noting.{Sofar, sofar_starts}
+use Rattle.run_state.proofs.Noting.{Sofar}
 use Rattle.driver.proofs.+children_optimizer_drive_operands_optimizer_settle_turn_var_change_optimizer_cons_eval.Given as goal
 
 abbrev pub decreases-children_optimizer : goal.decreases-children_optimizer

@@ -1,5 +1,4 @@
 -- begin: one line a need; the lemmas are in Parts.
-use borrow.Author.Rules.{rules}
 use Rattle.store.proofs.Ready as ready
 use Rattle.driver_parts.proofs.Parts as parts
 use Rattle.driver_parts.proofs.begin.Goals as goal

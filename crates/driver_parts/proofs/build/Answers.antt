@@ -1,5 +1,4 @@
 -- build: one line a need; the lemmas are in Parts.
-use borrow.Author.Rules.{rules}
 use Rattle.driver_parts.proofs.Parts as parts
 use Rattle.driver_parts.proofs.build.Goals as goal
 

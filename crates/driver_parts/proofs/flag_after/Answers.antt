@@ -1,5 +1,4 @@
 -- flag_after: one line a need; the lemmas are in Parts.
-use borrow.Author.Rules.{rules}
 use Rattle.driver_parts.proofs.Parts as parts
 use Rattle.driver_parts.proofs.flag_after.Goals as goal
 

@@ -1,5 +1,4 @@
 -- keep_list: one line a need; the lemmas are in Giving.
-use borrow.Author.Rules.{rules}
 use Rattle.driver_parts.proofs.Giving as giving
 use Rattle.driver_parts.proofs.keep_list.Goals as goal
 

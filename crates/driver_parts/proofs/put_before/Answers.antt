@@ -1,5 +1,4 @@
 -- put_before: one line a need; the lemmas are in Putting.
-use borrow.Author.Rules.{rules}
 use Rattle.driver_parts.proofs.Putting as putting
 use Rattle.driver_parts.proofs.put_before.Goals as goal
 

@@ -1,5 +1,4 @@
 -- simple: one line a need; the lemmas are in Simply.
-use borrow.Author.Rules.{rules}
 use Rattle.driver_parts.proofs.Simply as simply
 use Rattle.driver_parts.proofs.simple.Goals as goal
 

@@ -1,5 +1,4 @@
 -- worked_into: one line a need; the lemmas are in Putting.
-use borrow.Author.Rules.{rules}
 use Rattle.driver_parts.proofs.Putting as putting
 use Rattle.driver_parts.proofs.worked_into.Goals as goal
 

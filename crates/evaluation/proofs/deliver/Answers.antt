@@ -1,6 +1,5 @@
 -- deliver: an answer for each need; what carries weight stands in the laws.
 use Rattle.evaluation.proofs.Bytes as laws
-use borrow.Author.Rules.{rules}
 use Rattle.evaluation.proofs.deliver.Goals as goal
 
 pub returns-in-Over : goal.returns-in-Over

@@ -1,6 +1,5 @@
 -- evaluate: an answer for each need; what carries weight stands in the laws.
 use Rattle.evaluation.proofs.Bytes as laws
-use borrow.Author.Rules.{rules}
 use Rattle.evaluation.proofs.evaluate.Goals as goal
 
 pub returns-then-room-lt-ROOM : goal.returns-then-room-lt-ROOM

@@ -1,6 +1,5 @@
 -- work: both forms are read, and then the program is evaluated.
 use Rattle.evaluation.proofs.Bytes as laws
-use borrow.Author.Rules.{rules}
 use Rattle.evaluation.proofs.work.Goals as goal
 
 pub eval_node-requires : goal.eval_node-requires

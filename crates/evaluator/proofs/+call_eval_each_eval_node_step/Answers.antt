@@ -1,11 +1,7 @@
 -- The cycle: the steps left fall at every expression. One law for each call and each return.
-use Prim.Native.Nat.{ℕ, ◌+◌, ◌-◌, ◌*◌, ◌<◌}
 use native.Mathlib.Omega.{arith}
 use borrow.Author.Rules.{rules}
-use Rattle.meaning.specs.Evaluate.{evaluate}
-use Rattle.store.specs.Nodes.{tree_at}
 use Rattle.store.proofs.Ready.{room}
-use Rattle.evaluator.specs.Values.{state, Asks}
 use Rattle.evaluator.proofs.Outcomes.{asks_now}
 use Rattle.evaluator.proofs.Each as each
 use Rattle.evaluator.proofs.Cycle as cycle

@@ -1,14 +1,9 @@
 -- The cycle: the steps left fall at every expression. One law for each call and each return.
-use Prim.Native.Nat.{ℕ, ◌+◌, ◌-◌, ◌*◌, ◌<◌}
-use native.Mathlib.Omega.{arith}
-use borrow.Author.Rules.{rules}
+use Prim.Native.Nat.{◌+◌, ◌-◌, ◌*◌}
 use Rattle.meaning.specs.Evaluate.{evaluate}
 use Rattle.store.specs.Nodes.{tree_at}
-use Rattle.store.proofs.Ready.{room}
 use Rattle.evaluator.specs.Values.{state, Asks}
-use Rattle.evaluator.proofs.Outcomes.{asks_now}
 use Rattle.evaluator.proofs.Each as each
-use Rattle.evaluator.proofs.Cycle as cycle
 use Rattle.evaluator.proofs.+call_eval_each_eval_node_step.Given as goal
 
 abbrev pub decreases-call : goal.decreases-call

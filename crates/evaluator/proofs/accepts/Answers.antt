@@ -1,6 +1,5 @@
 -- accepts: an answer for each need; what carries weight stands in the laws.
 use Rattle.evaluator.proofs.Heads as heads
-use borrow.Author.Rules.{rules}
 use Rattle.evaluator.proofs.accepts.Goals as goal
 
 pub loop-r-init : goal.loop-r-init

@@ -1,6 +1,5 @@
 -- answered: an answer for each need; what carries weight stands in the laws.
 use Rattle.evaluator.proofs.Operators as operators
-use borrow.Author.Rules.{rules}
 use Rattle.evaluator.proofs.answered.Goals as goal
 
 pub returns-in-Value : goal.returns-in-Value

@@ -1,6 +1,5 @@
 -- head_node: an answer for each need; what carries weight stands in the laws.
 use Rattle.evaluator.proofs.Heads as heads
-use borrow.Author.Rules.{rules}
 use Rattle.evaluator.proofs.head_node.Goals as goal
 
 pub returns-in-Pair : goal.returns-in-Pair

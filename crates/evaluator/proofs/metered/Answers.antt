@@ -1,6 +1,5 @@
 -- metered: an answer for each need; what carries weight stands in the laws.
 use Rattle.evaluator.proofs.Operators as operators
-use borrow.Author.Rules.{rules}
 use Rattle.evaluator.proofs.metered.Goals as goal
 
 pub returns-in-Node : goal.returns-in-Node

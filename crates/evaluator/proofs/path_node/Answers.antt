@@ -1,8 +1,6 @@
 -- path_node: an answer for each need; what carries weight stands in the laws.
-use Prim.Native.Nat.{◌-◌}
 use Rattle.evaluator.proofs.Walk as walk
 use Rattle.store.proofs.Ready.{room}
-use borrow.Author.Rules.{rules}
 use Rattle.evaluator.proofs.path_node.Goals as goal
 
 pub atom_bytes-b-requires : goal.atom_bytes-b-requires

@@ -1,6 +1,5 @@
 -- perform: an answer for each need; what carries weight stands in the laws.
 use Rattle.evaluator.proofs.Operators as operators
-use borrow.Author.Rules.{rules}
 use Rattle.evaluator.proofs.perform.Goals as goal
 
 pub returns-in-Apply : goal.returns-in-Apply

@@ -1,7 +1,6 @@
 -- rest: an answer for each need; what carries weight stands in the laws.
 use Rattle.evaluator.proofs.Operators as operators
 use Rattle.store.proofs.Ready.{room}
-use borrow.Author.Rules.{rules}
 use Rattle.evaluator.proofs.rest.Goals as goal
 
 pub look_node-requires : goal.look_node-requires

@@ -2,7 +2,6 @@
 use Rattle.evaluator.proofs.Heads as heads
 use Rattle.evaluator.specs.declared.Operator.TheVariants.{Apply, Choose, Cons, First, Rest, Listp, Raise, Same}
 use Rattle.meaning.specs.Operator.{takes}
-use borrow.Author.Rules.{rules}
 use Rattle.evaluator.proofs.takes.Goals as goal
 
 pub returns-in-Apply : goal.returns-in-Apply

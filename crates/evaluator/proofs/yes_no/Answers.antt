@@ -1,6 +1,5 @@
 -- yes_no: an answer for each need; what carries weight stands in the laws.
 use Rattle.evaluator.proofs.Operators as operators
-use borrow.Author.Rules.{rules}
 use Rattle.evaluator.proofs.yes_no.Goals as goal
 
 pub returns-then-yes : goal.returns-then-yes

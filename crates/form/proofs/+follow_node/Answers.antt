@@ -1,5 +1,4 @@
 -- The one proof of follow_node's cycle: one line a need; the laws are in Following and Writer.
-use Prim.Native.Nat.{ℕ, ◌<◌}
 use borrow.Author.Rules.{rules}
 use Rattle.form.proofs.Writer as laws
 use Rattle.form.proofs.Following as following

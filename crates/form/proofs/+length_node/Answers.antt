@@ -1,6 +1,4 @@
-use Prim.Native.Nat.{ℕ, ◌<◌}
 use Rattle.form.proofs.Writer as laws
-use borrow.Author.Rules.{rules}
 use Rattle.form.proofs.+length_node.Goals as goal
 
 pub returns-then-limit-eq0 : goal.returns-then-limit-eq0

@@ -1,6 +1,4 @@
-use Prim.Native.Nat.{ℕ, ◌<◌}
 use Rattle.form.proofs.Writer as laws
-use borrow.Author.Rules.{rules}
 use Rattle.form.proofs.+write_node.Goals as goal
 
 pub bounds-out-0 : goal.bounds-out-0

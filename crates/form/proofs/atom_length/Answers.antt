@@ -1,5 +1,4 @@
 use Rattle.form.proofs.Writer as laws
-use borrow.Author.Rules.{rules}
 use Rattle.form.proofs.atom_length.Goals as goal
 
 pub returns-then-b-lt64 : goal.returns-then-b-lt64

@@ -1,6 +1,5 @@
 -- close: pair by pair, the last left part first. Assumes nothing.
 use Rattle.form.proofs.Reader as laws
-use borrow.Author.Rules.{rules}
 use Rattle.form.proofs.close.Given as goal
 
 abbrev pub invariant-loop-left : goal.invariant-loop-left

@@ -1,7 +1,4 @@
-use Prim.Native.Nat.{◌-◌}
 use Rattle.form.proofs.Lend as laws
-use borrow.Author.Rules.{rules}
-use lib.ListN.{length}
 use Rattle.form.proofs.copy.Goals as goal
 
 pub loop-i-init : goal.loop-i-init

@@ -1,6 +1,5 @@
 use Prim.Native.Nat.{◌-◌}
 use Rattle.form.proofs.Lend as laws
-use borrow.Author.Rules.{rules}
 use lib.ListN.{length}
 use Rattle.form.proofs.copy.Given as goal
 

@@ -1,6 +1,5 @@
 -- deliver: by what deliver_node says.
 use Rattle.form.proofs.Bytes as laws
-use borrow.Author.Rules.{rules}
 use Rattle.form.proofs.deliver.Goals as goal
 
 pub returns-in-Over : goal.returns-in-Over

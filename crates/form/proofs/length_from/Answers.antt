@@ -1,5 +1,4 @@
 use Rattle.form.proofs.Lengths as laws
-use borrow.Author.Rules.{rules}
 use Rattle.form.proofs.length_from.Goals as goal
 
 pub returns-then-p-lt192 : goal.returns-then-p-lt192

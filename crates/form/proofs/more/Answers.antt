@@ -1,5 +1,3 @@
-use Prim.Native.Nat.{◌-◌}
-use borrow.Author.Rules.{rules}
 use Rattle.form.proofs.Lengths as laws
 use Rattle.form.proofs.more.Goals as goal
 

@@ -1,4 +1,3 @@
-use borrow.Author.Rules.{rules}
 use Rattle.form.proofs.Lengths as laws
 use Rattle.form.proofs.needs_prefix.Goals as goal
 

@@ -1,5 +1,4 @@
 use Rattle.form.proofs.Writer as laws
-use borrow.Author.Rules.{rules}
 use Rattle.form.proofs.put_long.Goals as goal
 
 pub bounds-out-1 : goal.bounds-out-1

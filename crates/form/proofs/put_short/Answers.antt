@@ -1,5 +1,4 @@
 use Rattle.form.proofs.Writer as laws
-use borrow.Author.Rules.{rules}
 use Rattle.form.proofs.put_short.Goals as goal
 
 pub slice_bounds-copy-count : goal.slice_bounds-copy-count

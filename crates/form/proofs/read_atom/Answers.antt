@@ -1,5 +1,4 @@
 use Rattle.form.proofs.Reader as laws
-use borrow.Author.Rules.{rules}
 use Rattle.form.proofs.read_atom.Goals as goal
 
 pub returns-then-p-lt128 : goal.returns-then-p-lt128

@@ -1,5 +1,4 @@
 use Rattle.form.proofs.Form as laws
-use borrow.Author.Rules.{rules}
 use Rattle.form.proofs.read_form.Goals as goal
 
 pub returns-then-stop-from-gt-FORM : goal.returns-then-stop-from-gt-FORM

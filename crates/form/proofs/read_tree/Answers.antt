@@ -1,7 +1,4 @@
 -- read_tree: byte by byte, with the pairs that wait. Assumes nothing.
-use Prim.Native.Nat.{◌-◌}
-use mathlib.Core.Path.{◌≡◌}
-use lib.ListN.{length}
 use native.Mathlib.Omega.{arith}
 use Rattle.form.proofs.Reader as laws
 use borrow.Author.Rules.{rules}

@@ -2,9 +2,7 @@
 use Prim.Native.Nat.{◌-◌}
 use mathlib.Core.Path.{◌≡◌}
 use lib.ListN.{length}
-use native.Mathlib.Omega.{arith}
 use Rattle.form.proofs.Reader as laws
-use borrow.Author.Rules.{rules}
 use Rattle.form.proofs.read_tree.Given as goal
 
 abbrev pub invariant-loop-next : goal.invariant-loop-next

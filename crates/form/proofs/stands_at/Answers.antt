@@ -1,5 +1,4 @@
 -- stands_at: one line a need; the laws are in Following.
-use borrow.Author.Rules.{rules}
 use Rattle.form.proofs.Following as following
 use Rattle.form.proofs.stands_at.Goals as goal
 

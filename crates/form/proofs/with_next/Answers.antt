@@ -1,5 +1,4 @@
 use Rattle.form.proofs.Reader as laws
-use borrow.Author.Rules.{rules}
 use Rattle.form.proofs.with_next.Goals as goal
 
 pub returns-in-Node : goal.returns-in-Node

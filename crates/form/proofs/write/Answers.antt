@@ -1,5 +1,4 @@
 use Rattle.form.proofs.Bytes as laws
-use borrow.Author.Rules.{rules}
 use Rattle.form.proofs.write.Goals as goal
 
 pub returns-then-room-lt-ROOM : goal.returns-then-room-lt-ROOM

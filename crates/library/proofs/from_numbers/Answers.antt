@@ -1,5 +1,4 @@
 -- from_numbers: each number in its place.
-use borrow.Author.Rules.{rules}
 use Rattle.library.proofs.Totals as totals
 use Rattle.library.proofs.from_numbers.Goals as goal
 

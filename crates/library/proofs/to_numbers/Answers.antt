@@ -1,5 +1,4 @@
 -- to_numbers: each number in its place.
-use borrow.Author.Rules.{rules}
 use Rattle.library.proofs.Totals as totals
 use Rattle.library.proofs.to_numbers.Goals as goal
 

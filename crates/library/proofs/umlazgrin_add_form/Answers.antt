@@ -1,5 +1,4 @@
 -- umlazgrin_add_form: one line a need; the laws are in Totals.
-use borrow.Author.Rules.{rules}
 use Rattle.library.proofs.Totals as totals
 use Rattle.library.proofs.umlazgrin_add_form.Goals as goal
 

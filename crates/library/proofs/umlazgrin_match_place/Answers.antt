@@ -1,5 +1,4 @@
 -- umlazgrin_match_place: an answer for each need; what carries weight stands in the laws.
-use borrow.Author.Rules.{rules}
 use Rattle.library.proofs.Reports as laws
 use Rattle.library.proofs.umlazgrin_match_place.Goals as goal
 

@@ -1,6 +1,5 @@
 -- umlazgrin_read_text: an answer for each need; what carries weight stands in the laws.
 use Rattle.library.proofs.Reports as laws
-use borrow.Author.Rules.{rules}
 use Rattle.library.proofs.umlazgrin_read_text.Goals as goal
 
 pub returns-in-Refused : goal.returns-in-Refused

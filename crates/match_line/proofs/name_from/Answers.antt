@@ -1,5 +1,4 @@
 -- name_from: by the first byte.
-use borrow.Author.Rules.{rules}
 use Rattle.match_line.proofs.Found as found
 use Rattle.match_line.proofs.name_from.Goals as goal
 

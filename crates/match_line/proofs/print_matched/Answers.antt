@@ -1,5 +1,4 @@
 -- print_matched: by what the matcher says; the parts stand in the output.
-use borrow.Author.Rules.{rules}
 use Rattle.matcher.proofs.Whole.{ends_within}
 use Rattle.match_line.specs.Line.{too_many_line}
 use Rattle.match_line.proofs.Told as told

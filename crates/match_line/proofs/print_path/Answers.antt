@@ -1,5 +1,4 @@
 -- print_path: the word, the atom's form in hex, and the line's end.
-use borrow.Author.Rules.{rules}
 use Rattle.match_line.proofs.Told as told
 use Rattle.match_line.proofs.print_path.Goals as goal
 

@@ -1,5 +1,4 @@
 -- answer: by what the work said.
-use borrow.Author.Rules.{rules}
 use Rattle.matcher.proofs.Whole as laws
 use Rattle.matcher.proofs.answer.Goals as goal
 

@@ -1,5 +1,4 @@
 -- end_node: the length where what remains allows it.
-use borrow.Author.Rules.{rules}
 use Rattle.matcher.proofs.Written as laws
 use Rattle.matcher.proofs.end_node.Goals as goal
 

@@ -1,5 +1,4 @@
 -- matched: what the match says, and the place where it fails.
-use borrow.Author.Rules.{rules}
 use Rattle.matcher.proofs.Forms as laws
 use Rattle.matcher.proofs.matched.Goals as goal
 

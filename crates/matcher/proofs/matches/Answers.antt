@@ -1,5 +1,4 @@
 -- matches: the room is tried, the forms are worked, the answer is delivered, and the room is zeroed.
-use borrow.Author.Rules.{rules}
 use Rattle.meaning.specs.Match.{place_bytes}
 use Rattle.matcher.proofs.Whole as laws
 use Rattle.matcher.proofs.matches.Goals as goal

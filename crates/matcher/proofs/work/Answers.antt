@@ -1,5 +1,4 @@
 -- work: both forms are read, and then matched.
-use borrow.Author.Rules.{rules}
 use Rattle.matcher.proofs.Forms as laws
 use Rattle.matcher.proofs.work.Goals as goal
 

@@ -1,5 +1,4 @@
 -- alike: fewer left parts within left parts at each call. One line a need; the laws are in Comparing.
-use Prim.Native.Nat.{ℕ, ◌<◌}
 use borrow.Author.Rules.{rules}
 use Rattle.memo.proofs.Comparing as comparing
 use Rattle.memo.proofs.+alike.Goals as goal

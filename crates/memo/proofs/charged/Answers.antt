@@ -1,5 +1,4 @@
 -- charged: one line a need; the laws are in Hits.
-use borrow.Author.Rules.{rules}
 use Rattle.memo.proofs.Hits as hits
 use Rattle.memo.proofs.charged.Goals as goal
 

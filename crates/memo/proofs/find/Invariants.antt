@@ -1,7 +1,5 @@
 -- find: one line a need; the laws are in Entries.
 use Prim.Native.Nat.{◌-◌}
-use borrow.Author.Rules.{rules}
-use Rattle.store.proofs.Ready.{room}
 use Rattle.memo.proofs.Entries as entries
 use Rattle.memo.proofs.find.Given as goal
 

@@ -2,7 +2,6 @@
 use mathlib.Core.Path.{◌≡◌}
 use mathlib.Core.List.{List}
 use Prim.Native.Nat.{ℕ}
-use borrow.Author.Rules.{rules}
 use Rattle.store.specs.declared.Charges.{Charges}
 use Rattle.store.specs.Store.{Ready}
 use Rattle.memo.proofs.Entries as entries

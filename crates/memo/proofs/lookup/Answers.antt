@@ -1,5 +1,4 @@
 -- lookup: one line a need; the laws are in Entries.
-use borrow.Author.Rules.{rules}
 use Rattle.memo.proofs.Entries as entries
 use Rattle.memo.proofs.lookup.Goals as goal
 

@@ -1,5 +1,4 @@
 -- store: one line a need; the laws are in Storing.
-use borrow.Author.Rules.{rules}
 use Rattle.memo.proofs.Storing as storing
 use Rattle.memo.proofs.store.Goals as goal
 

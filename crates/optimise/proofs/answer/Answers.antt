@@ -1,5 +1,4 @@
 -- answer: by what came; the line stands alone.
-use borrow.Author.Rules.{rules}
 use Rattle.optimise.proofs.Laws as laws
 use Rattle.optimise.proofs.answer.Goals as goal
 

@@ -1,7 +1,6 @@
 -- `optimise_rooms::show` meets its contract. The invariant: i is at most the length. Assumes nothing.
 use Prim.Native.Nat.{◌-◌, ◌≤◌}
 use lib.ListN.{length}
-use borrow.Author.Rules.{rules}
 use Rattle.optimise_rooms.proofs.show.Given as goal
 
 abbrev pub invariant-loop-i : goal.invariant-loop-i

@@ -1,6 +1,5 @@
 -- deliver: an answer for each need; what carries weight stands in the laws.
 use Rattle.optimiser.proofs.Bytes as laws
-use borrow.Author.Rules.{rules}
 use Rattle.optimiser.proofs.deliver.Goals as goal
 
 pub deliver_node-requires : goal.deliver_node-requires

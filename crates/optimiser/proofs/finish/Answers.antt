@@ -1,6 +1,5 @@
 -- finish: an answer for each need; what carries weight stands in the laws.
 use Rattle.optimiser.proofs.Working as laws
-use borrow.Author.Rules.{rules}
 use Rattle.optimiser.proofs.finish.Goals as goal
 
 pub returns-in-Same : goal.returns-in-Same

@@ -1,6 +1,5 @@
 -- optimise: an answer for each need; what carries weight stands in the laws.
 use Rattle.optimiser.proofs.Bytes as laws
-use borrow.Author.Rules.{rules}
 use Rattle.optimiser.proofs.optimise.Goals as goal
 
 pub returns-then-room-lt-ROOM : goal.returns-then-room-lt-ROOM

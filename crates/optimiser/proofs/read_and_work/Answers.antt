@@ -1,6 +1,5 @@
 -- read_and_work: an answer for each need; what carries weight stands in the laws.
 use Rattle.optimiser.proofs.Working as laws
-use borrow.Author.Rules.{rules}
 use Rattle.optimiser.proofs.read_and_work.Goals as goal
 
 pub optimize_node-w-requires : goal.optimize_node-w-requires

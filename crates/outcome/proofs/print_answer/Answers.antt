@@ -1,5 +1,4 @@
 -- print_answer: the tree, and then the numbers.
-use borrow.Author.Rules.{rules}
 use Rattle.outcome.proofs.Laws as laws
 use Rattle.outcome.proofs.print_answer.Goals as goal
 

@@ -1,5 +1,4 @@
 -- print_evaluated: by what `evaluate` says.
-use borrow.Author.Rules.{rules}
 use Rattle.outcome.proofs.Laws as laws
 use Rattle.outcome.proofs.print_evaluated.Goals as goal
 

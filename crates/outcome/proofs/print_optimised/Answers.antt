@@ -1,5 +1,4 @@
 -- print_optimised: by what `optimise` says.
-use borrow.Author.Rules.{rules}
 use Rattle.outcome.proofs.Laws as laws
 use Rattle.outcome.proofs.print_optimised.Goals as goal
 

@@ -1,5 +1,4 @@
 -- print_written: by what `write` says.
-use borrow.Author.Rules.{rules}
 use Rattle.outcome.proofs.Laws as laws
 use Rattle.outcome.proofs.print_written.Goals as goal
 

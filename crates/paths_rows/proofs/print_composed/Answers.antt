@@ -1,6 +1,5 @@
 -- `paths_rows::print_composed` meets its contract. Assumes nothing.
 use Rattle.paths.proofs.SignedLaws.{held, number_short}
-use borrow.Author.Rules.{rules}
 use Rattle.paths_rows.proofs.print_composed.Goals as goal
 
 pub compose_paths-requires : goal.compose_paths-requires

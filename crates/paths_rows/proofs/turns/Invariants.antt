@@ -1,7 +1,6 @@
 -- `paths_rows::turns` meets its contract. The invariant: the lent bytes stay as long. Assumes nothing.
 use mathlib.Core.Path.{◌≡◌}
 use lib.ListN.{length}
-use borrow.Author.Rules.{rules}
 use Rattle.paths_rows.proofs.turns.Given as goal
 
 abbrev pub invariant-loop-left : goal.invariant-loop-left

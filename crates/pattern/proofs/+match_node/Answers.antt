@@ -1,5 +1,4 @@
 -- The pattern's node number falls. One law of Laws for each call and each return.
-use Prim.Native.Nat.{ℕ, ◌<◌}
 use borrow.Author.Rules.{rules}
 use Rattle.store.proofs.Ready.{room, ready_left, ready_right}
 use Rattle.pattern.proofs.Laws as laws

@@ -1,5 +1,4 @@
 -- both_bytes: one test, then the other.
-use borrow.Author.Rules.{rules}
 use Rattle.pattern.proofs.Laws as laws
 use Rattle.pattern.proofs.both_bytes.Goals as goal
 

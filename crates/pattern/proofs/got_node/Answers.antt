@@ -1,5 +1,4 @@
 -- got_node: what get says of a match, or nothing.
-use borrow.Author.Rules.{rules}
 use Rattle.pattern.proofs.Laws as laws
 use Rattle.pattern.proofs.got_node.Goals as goal
 

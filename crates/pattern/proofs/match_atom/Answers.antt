@@ -1,5 +1,4 @@
 -- match_atom: the expression's cell, then its bytes.
-use borrow.Author.Rules.{rules}
 use Rattle.store.proofs.Ready.{room}
 use Rattle.pattern.proofs.Kept as kept
 use Rattle.pattern.proofs.Laws as laws

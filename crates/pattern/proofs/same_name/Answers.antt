@@ -1,5 +1,4 @@
 -- same_name: the atom's bytes are compared.
-use borrow.Author.Rules.{rules}
 use Rattle.pattern.proofs.Laws as laws
 use Rattle.pattern.proofs.same_name.Goals as goal
 

@@ -1,5 +1,4 @@
 -- takes_any: the head, then the cell of what follows it.
-use borrow.Author.Rules.{rules}
 use Rattle.pattern.proofs.Laws as laws
 use Rattle.pattern.proofs.takes_any.Goals as goal
 

@@ -1,6 +1,5 @@
 -- lay_patterns: an answer for each need; what carries weight stands in the laws.
 use Rattle.patterns.proofs.Laws as laws
-use borrow.Author.Rules.{rules}
 use Rattle.patterns.proofs.lay_patterns.Goals as goal
 
 pub returns : goal.returns

@@ -1,5 +1,4 @@
 -- print_tree: an answer for each need; what carries weight stands in the laws.
-use borrow.Author.Rules.{rules}
 use Rattle.rule_line.proofs.Telling as telling
 use Rattle.rule_line.proofs.print_tree.Goals as goal
 

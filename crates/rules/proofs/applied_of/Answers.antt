@@ -1,7 +1,6 @@
 -- applied_of: an answer for each need; what carries weight stands in the laws.
 use Rattle.rules.proofs.Found as found
 use Rattle.rules.proofs.Simple as simple
-use borrow.Author.Rules.{rules}
 use Rattle.rules.proofs.applied_of.Goals as goal
 
 pub get-s-requires : goal.get-s-requires

@@ -1,6 +1,5 @@
 -- apply_null_optimizer: an answer for each need; what carries weight stands in the laws.
 use Rattle.rules.proofs.Simple as simple
-use borrow.Author.Rules.{rules}
 use Rattle.rules.proofs.apply_null_optimizer.Goals as goal
 
 pub returns-in-Matched : goal.returns-in-Matched

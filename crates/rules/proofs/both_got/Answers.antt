@@ -1,6 +1,5 @@
 -- both_got: an answer for each need; what carries weight stands in the laws.
 use Rattle.rules.proofs.Simple as simple
-use borrow.Author.Rules.{rules}
 use Rattle.rules.proofs.both_got.Goals as goal
 
 pub returns-in-At-a : goal.returns-in-At-a

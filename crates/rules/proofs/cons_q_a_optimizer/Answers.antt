@@ -1,6 +1,5 @@
 -- cons_q_a_optimizer: an answer for each need; what carries weight stands in the laws.
 use Rattle.rules.proofs.Simple as simple
-use borrow.Author.Rules.{rules}
 use Rattle.rules.proofs.cons_q_a_optimizer.Goals as goal
 
 pub is_byte_node-requires : goal.is_byte_node-requires

@@ -1,7 +1,6 @@
 -- constant_optimizer: an answer for each need; what carries weight stands in the laws.
 use Rattle.store.proofs.Ready.{room}
 use Rattle.rules.proofs.Constant as constant
-use borrow.Author.Rules.{rules}
 use Rattle.rules.proofs.constant_optimizer.Goals as goal
 
 pub is_quote_node-requires : goal.is_quote_node-requires

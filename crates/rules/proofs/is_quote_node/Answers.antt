@@ -1,7 +1,6 @@
 -- is_quote_node: an answer for each need; what carries weight stands in the laws.
 use Rattle.store.proofs.Ready.{room_left}
 use Rattle.rules.proofs.Constant as constant
-use borrow.Author.Rules.{rules}
 use Rattle.rules.proofs.is_quote_node.Goals as goal
 
 pub is_byte_node-requires : goal.is_byte_node-requires

@@ -1,5 +1,4 @@
 -- count_in: one line a need; the laws are in Counting.
-use borrow.Author.Rules.{rules}
 use Rattle.run_state.proofs.Counting as counting
 use Rattle.run_state.proofs.count_in.Goals as goal
 

@@ -1,5 +1,4 @@
 -- one_more: one line a need; the laws are in Counting.
-use borrow.Author.Rules.{rules}
 use Rattle.run_state.proofs.Counting as counting
 use Rattle.run_state.proofs.one_more.Goals as goal
 

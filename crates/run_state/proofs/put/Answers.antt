@@ -1,6 +1,5 @@
 -- put: an answer for each need; what carries weight stands in the laws.
 use Rattle.run_state.proofs.Does as does
-use borrow.Author.Rules.{rules}
 use Rattle.run_state.proofs.put.Goals as goal
 
 pub returns-in-Refused : goal.returns-in-Refused

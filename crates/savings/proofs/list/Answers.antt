@@ -1,9 +1,6 @@
 -- list: one line a need.
-use Prim.Native.Nat.{◌≤◌}
-use mathlib.Core.Path.{◌≡◌, refl}
-use lib.ListN.{length}
+use mathlib.Core.Path.{refl}
 use borrow.Author.Rules.{rules}
-use Rattle.lines.specs.Text.{line_most}
 use Rattle.savings.proofs.list.Goals as goal
 
 pub loop-left-init : goal.loop-left-init

@@ -1,8 +1,7 @@
 -- list: one line a need.
 use Prim.Native.Nat.{◌≤◌}
-use mathlib.Core.Path.{◌≡◌, refl}
+use mathlib.Core.Path.{◌≡◌}
 use lib.ListN.{length}
-use borrow.Author.Rules.{rules}
 use Rattle.lines.specs.Text.{line_most}
 use Rattle.savings.proofs.list.Given as goal
 

@@ -1,5 +1,4 @@
 -- print_last: the report, and then the number.
-use borrow.Author.Rules.{rules}
 use Rattle.savings.proofs.Printing as printing
 use Rattle.savings.proofs.print_last.Goals as goal
 

@@ -1,7 +1,5 @@
 -- print_refused: one line a need; the laws are in Printing.
-use Prim.Native.Nat.{◌-◌}
-use mathlib.Core.Path.{◌≡◌, refl}
-use lib.ListN.{length}
+use mathlib.Core.Path.{refl}
 use borrow.Author.Rules.{rules}
 use Rattle.savings.proofs.Printing as printing
 use Rattle.savings.proofs.print_refused.Goals as goal

@@ -1,8 +1,7 @@
 -- print_refused: one line a need; the laws are in Printing.
 use Prim.Native.Nat.{◌-◌}
-use mathlib.Core.Path.{◌≡◌, refl}
+use mathlib.Core.Path.{◌≡◌}
 use lib.ListN.{length}
-use borrow.Author.Rules.{rules}
 use Rattle.savings.proofs.Printing as printing
 use Rattle.savings.proofs.print_refused.Given as goal
 

@@ -1,5 +1,4 @@
 -- print_row: the word, and then the numbers.
-use borrow.Author.Rules.{rules}
 use Rattle.lines.proofs.Printing as printed
 use Rattle.savings.proofs.print_row.Goals as goal
 

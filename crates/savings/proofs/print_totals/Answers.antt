@@ -1,5 +1,4 @@
 -- print_totals: one line a need; the laws are in Printing.
-use borrow.Author.Rules.{rules}
 use Rattle.savings.proofs.Printing as printing
 use Rattle.savings.proofs.print_totals.Goals as goal
 

@@ -1,5 +1,4 @@
 -- work_in: one line a need; the laws are in Listing.
-use borrow.Author.Rules.{rules}
 use Rattle.savings.proofs.Listing as listing
 use mathlib.Core.Path.{refl}
 use Rattle.savings.proofs.work_in.Goals as goal

@@ -1,5 +1,4 @@
 -- The cycle: the node's number falls. One law of Laws for each call and each return.
-use Prim.Native.Nat.{ℕ, ◌<◌}
 use borrow.Author.Rules.{rules}
 use Rattle.meaning.specs.Constant as meaning
 use Rattle.store.proofs.Ready.{room, ready_left, ready_right}

@@ -1,5 +1,4 @@
 -- answer: by the program.
-use borrow.Author.Rules.{rules}
 use Rattle.serve.proofs.Replies as replies
 use Rattle.serve.proofs.answer.Goals as goal
 

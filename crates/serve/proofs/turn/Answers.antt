@@ -1,5 +1,4 @@
 -- turn: an answer for each need; what carries weight stands in the laws.
-use borrow.Author.Rules.{rules}
 use Rattle.lines.proofs.Waiting as waiting
 use Rattle.serve.proofs.Replies as replies
 use Rattle.serve.proofs.turn.Goals as goal

@@ -1,7 +1,6 @@
 -- turns: the lent bytes stay as long as they are.
 use mathlib.Core.Path.{◌≡◌}
 use lib.ListN.{length}
-use borrow.Author.Rules.{rules}
 use Rattle.serve.proofs.turns.Given as goal
 
 abbrev pub invariant-loop-left : goal.invariant-loop-left

@@ -1,5 +1,4 @@
 -- equal_node and equal_records: the first node's number falls. One law of Equal for each call and each return.
-use Prim.Native.Nat.{ℕ, ◌+◌, ◌<◌}
 use borrow.Author.Rules.{rules}
 use Rattle.store.proofs.Ready.{room}
 use Rattle.sexp.proofs.Equal as equal

@@ -1,8 +1,5 @@
 -- equal_node and equal_records: the first node's number falls. One law of Equal for each call and each return.
-use Prim.Native.Nat.{ℕ, ◌+◌, ◌<◌}
-use borrow.Author.Rules.{rules}
-use Rattle.store.proofs.Ready.{room}
-use Rattle.sexp.proofs.Equal as equal
+use Prim.Native.Nat.{◌+◌}
 use Rattle.sexp.proofs.+equal_node_equal_records.Given as goal
 
 abbrev pub decreases-equal_node : goal.decreases-equal_node

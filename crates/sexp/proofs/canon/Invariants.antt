@@ -1,7 +1,5 @@
 -- canon: an answer for each need; what carries weight stands in the laws.
 use Rattle.store.proofs.Ready as ready
-use Rattle.sexp.proofs.Equal as equal
-use borrow.Author.Rules.{rules}
 use Rattle.sexp.proofs.canon.Given as goal
 
 abbrev pub invariant-loop-m : goal.invariant-loop-m

@@ -1,6 +1,5 @@
 -- compare_records: an answer for each need; what carries weight stands in the laws.
 use Rattle.sexp.proofs.Equal as equal
-use borrow.Author.Rules.{rules}
 use Rattle.sexp.proofs.compare_records.Goals as goal
 
 pub returns-in-Pair-look_node : goal.returns-in-Pair-look_node

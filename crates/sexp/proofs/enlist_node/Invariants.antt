@@ -1,6 +1,5 @@
 -- enlist_node: an answer for each need; what carries weight stands in the laws.
 use Rattle.sexp.proofs.Lists as lists
-use borrow.Author.Rules.{rules}
 use Rattle.sexp.proofs.enlist_node.Given as goal
 
 abbrev pub invariant-loop-i : goal.invariant-loop-i

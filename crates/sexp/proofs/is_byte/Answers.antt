@@ -1,6 +1,5 @@
 -- is_byte: an answer for each need; what carries weight stands in the laws.
 use Rattle.sexp.proofs.Tests as tests
-use borrow.Author.Rules.{rules}
 use Rattle.sexp.proofs.is_byte.Goals as goal
 
 pub returns-then-b-eq1 : goal.returns-then-b-eq1

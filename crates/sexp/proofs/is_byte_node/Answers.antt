@@ -1,6 +1,5 @@
 -- is_byte_node: an answer for each need; what carries weight stands in the laws.
 use Rattle.sexp.proofs.Tests as tests
-use borrow.Author.Rules.{rules}
 use Rattle.sexp.proofs.is_byte_node.Goals as goal
 
 pub returns-in-Pair : goal.returns-in-Pair

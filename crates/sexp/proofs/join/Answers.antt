@@ -1,6 +1,5 @@
 -- join: an answer for each need; what carries weight stands in the laws.
 use Rattle.sexp.proofs.Equal as equal
-use borrow.Author.Rules.{rules}
 use Rattle.sexp.proofs.join.Goals as goal
 
 pub join_node-requires : goal.join_node-requires

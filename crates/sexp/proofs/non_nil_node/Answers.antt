@@ -1,6 +1,5 @@
 -- non_nil_node: an answer for each need; what carries weight stands in the laws.
 use Rattle.sexp.proofs.Tests as tests
-use borrow.Author.Rules.{rules}
 use Rattle.sexp.proofs.non_nil_node.Goals as goal
 
 pub returns-in-Pair : goal.returns-in-Pair

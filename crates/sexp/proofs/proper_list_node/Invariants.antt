@@ -1,6 +1,5 @@
 -- proper_list_node: an answer for each need; what carries weight stands in the laws.
 use Rattle.sexp.proofs.Tests as tests
-use borrow.Author.Rules.{rules}
 use Rattle.sexp.proofs.proper_list_node.Given as goal
 
 abbrev pub invariant-loop-r : goal.invariant-loop-r

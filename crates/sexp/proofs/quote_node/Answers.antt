@@ -1,6 +1,5 @@
 -- quote_node: an answer for each need; what carries weight stands in the laws.
 use Rattle.sexp.proofs.Lists as lists
-use borrow.Author.Rules.{rules}
 use Rattle.sexp.proofs.quote_node.Goals as goal
 
 pub pair_node-requires : goal.pair_node-requires

@@ -1,6 +1,5 @@
 -- same_atoms: an answer for each need; what carries weight stands in the laws.
 use Rattle.sexp.proofs.Equal as equal
-use borrow.Author.Rules.{rules}
 use Rattle.sexp.proofs.same_atoms.Goals as goal
 
 pub returns : goal.returns

@@ -1,11 +1,8 @@
 -- same_bytes: an answer for each need; what carries weight stands in the laws.
 use mathlib.Core.Path.{◌≡◌}
 use Prim.Native.Nat.{◌-◌, ◌≤◌}
-use native.Mathlib.Omega.{arith}
 use lib.ListN.{length, drop}
 use Rattle.meaning.specs.Tree.{same_bytes}
-use Rattle.sexp.proofs.Equal as equal
-use borrow.Author.Rules.{rules}
 use Rattle.sexp.proofs.same_bytes.Given as goal
 
 abbrev pub invariant-loop-i : goal.invariant-loop-i

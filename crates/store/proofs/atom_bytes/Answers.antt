@@ -1,6 +1,5 @@
 -- atom_bytes: an answer for each need; what carries weight stands in the laws.
 use Rattle.store.proofs.Laws as laws
-use Rattle.std.proofs.Common.{rules}
 use Rattle.store.proofs.atom_bytes.Goals as goal
 
 pub returns-then-room-n-eq1 : goal.returns-then-room-n-eq1

@@ -1,6 +1,5 @@
 -- charge: an answer for each need; what carries weight stands in the laws.
 use Rattle.store.proofs.Charging as charging
-use Rattle.std.proofs.Common.{rules}
 use Rattle.store.proofs.charge.Goals as goal
 
 pub returns-then-ch-cost : goal.returns-then-ch-cost

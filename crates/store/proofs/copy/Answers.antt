@@ -1,5 +1,4 @@
 -- copy: an answer for each need; what carries weight stands in the laws.
-use Rattle.std.proofs.Common.{◌-◌, length, rules}
 use Rattle.store.proofs.Atoms as atoms
 use Rattle.store.proofs.copy.Goals as goal
 

@@ -1,5 +1,5 @@
 -- copy: an answer for each need; what carries weight stands in the laws.
-use Rattle.std.proofs.Common.{◌-◌, length, rules}
+use Rattle.std.proofs.Common.{◌-◌, length}
 use Rattle.store.proofs.Atoms as atoms
 use Rattle.store.proofs.copy.Given as goal
 

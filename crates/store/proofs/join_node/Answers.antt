@@ -1,6 +1,5 @@
 -- join_node: an answer for each need; what carries weight stands in the laws.
 use Rattle.store.proofs.Notes as notes
-use Rattle.std.proofs.Common.{rules}
 use Rattle.store.proofs.join_node.Goals as goal
 
 pub put-requires : goal.put-requires

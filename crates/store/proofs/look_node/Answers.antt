@@ -1,6 +1,5 @@
 -- look_node: an answer for each need; what carries weight stands in the laws.
 use Rattle.store.proofs.Laws as laws
-use Rattle.std.proofs.Common.{rules}
 use Rattle.store.proofs.look_node.Goals as goal
 
 pub returns-then-r-n : goal.returns-then-r-n

@@ -1,6 +1,5 @@
 -- mix: an answer for each need; what carries weight stands in the laws.
 use Rattle.store.proofs.Laws as laws
-use Rattle.std.proofs.Common.{rules}
 use Rattle.store.proofs.mix.Goals as goal
 
 pub returns : goal.returns

@@ -1,6 +1,5 @@
 -- pair_node: an answer for each need; what carries weight stands in the laws.
 use Rattle.store.proofs.Charging as charging
-use Rattle.std.proofs.Common.{rules}
 use Rattle.store.proofs.pair_node.Goals as goal
 
 pub append_pair-d-requires : goal.append_pair-d-requires

@@ -1,5 +1,5 @@
 -- part: an answer for each need; what carries weight stands in the laws.
-use Rattle.std.proofs.Common.{◌≡◌, ℕ, ◌+◌, ◌-◌, ◌≤◌, List, length, take, drop, sym, ◌∙◌, arith, length-drop, drop_of_length-le, take_all, rules}
+use Rattle.std.proofs.Common.{◌≡◌, ℕ, ◌+◌, ◌-◌, ◌≤◌, List, length, take, drop, sym, ◌∙◌, arith, length-drop, drop_of_length-le, take_all}
 use lib.Seq.{take-nil}
 use Rattle.store.proofs.part.Goals as goal
 

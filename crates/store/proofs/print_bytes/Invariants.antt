@@ -1,5 +1,5 @@
 -- print_bytes: an answer for each need; what carries weight stands in the laws.
-use Rattle.std.proofs.Common.{◌-◌, length, rules}
+use Rattle.std.proofs.Common.{◌-◌, length}
 use Rattle.store.proofs.Laws as laws
 use Rattle.store.proofs.print_bytes.Given as goal
 

@@ -1,6 +1,5 @@
 -- print_node: an answer for each need; what carries weight stands in the laws.
 use Rattle.store.proofs.Ready as ready
-use Rattle.std.proofs.Common.{rules}
 use Rattle.store.proofs.print_node.Goals as goal
 
 pub look_node-requires : goal.look_node-requires

@@ -1,5 +1,5 @@
 -- put_atom: an answer for each need; what carries weight stands in the laws.
-use Rattle.std.proofs.Common.{arith, length-set, rules}
+use Rattle.std.proofs.Common.{arith, length-set}
 use Rattle.store.specs.Cells.{atom_put}
 use Rattle.store.proofs.put_atom.Goals as goal
 

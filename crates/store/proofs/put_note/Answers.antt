@@ -1,6 +1,5 @@
 -- put_note: an answer for each need; what carries weight stands in the laws.
 use Rattle.store.specs.Store.{note}
-use Rattle.std.proofs.Common.{rules}
 use Rattle.store.proofs.put_note.Goals as goal
 
 pub returns : goal.returns

@@ -1,6 +1,5 @@
 -- put_note_tail: an answer for each need; what carries weight stands in the laws.
 use Rattle.store.specs.Store.{note_tail}
-use Rattle.std.proofs.Common.{rules}
 use Rattle.store.proofs.put_note_tail.Goals as goal
 
 pub returns : goal.returns

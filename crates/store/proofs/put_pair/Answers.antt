@@ -1,5 +1,5 @@
 -- put_pair: an answer for each need; what carries weight stands in the laws.
-use Rattle.std.proofs.Common.{arith, length-set, rules}
+use Rattle.std.proofs.Common.{arith, length-set}
 use Rattle.store.specs.Cells.{pair_put}
 use Rattle.store.proofs.put_pair.Goals as goal
 

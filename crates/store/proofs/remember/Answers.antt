@@ -1,7 +1,6 @@
 -- remember: an answer for each need; what carries weight stands in the laws.
 use Rattle.store.proofs.Notes as notes
 use Rattle.store.proofs.Ready as ready
-use Rattle.std.proofs.Common.{rules}
 use Rattle.store.proofs.remember.Goals as goal
 
 pub put_note-requires : goal.put_note-requires

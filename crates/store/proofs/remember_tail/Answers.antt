@@ -1,7 +1,6 @@
 -- remember_tail: an answer for each need; what carries weight stands in the laws.
 use Rattle.store.proofs.Notes as notes
 use Rattle.store.proofs.Ready as ready
-use Rattle.std.proofs.Common.{rules}
 use Rattle.store.proofs.remember_tail.Goals as goal
 
 pub put_note_tail-requires : goal.put_note_tail-requires

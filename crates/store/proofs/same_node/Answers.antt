@@ -1,6 +1,5 @@
 -- same_node: an answer for each need; what carries weight stands in the laws.
 use Rattle.store.proofs.Ready as ready
-use Rattle.std.proofs.Common.{rules}
 use Rattle.store.proofs.same_node.Goals as goal
 
 pub returns-in-Pair : goal.returns-in-Pair

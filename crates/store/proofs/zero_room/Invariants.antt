@@ -1,5 +1,5 @@
 -- zero_room: an answer for each need; what carries weight stands in the laws.
-use Rattle.std.proofs.Common.{◌-◌, length, rules}
+use Rattle.std.proofs.Common.{◌-◌, length}
 use Rattle.store.proofs.Zeros as zeros
 use Rattle.store.proofs.zero_room.Given as goal
 

@@ -1,5 +1,4 @@
 -- The cycle: the number of the node at work falls. One law of Answers for each call and each return.
-use Prim.Native.Nat.{ℕ, ◌+◌, ◌*◌, ◌<◌}
 use borrow.Author.Rules.{rules}
 use Rattle.store.proofs.Ready.{room, room_left, ready_left, ready_right}
 use Rattle.substitute.proofs.Answers as answers

@@ -1,8 +1,5 @@
 -- The cycle: the number of the node at work falls. One law of Answers for each call and each return.
-use Prim.Native.Nat.{ℕ, ◌+◌, ◌*◌, ◌<◌}
-use borrow.Author.Rules.{rules}
-use Rattle.store.proofs.Ready.{room, room_left, ready_left, ready_right}
-use Rattle.substitute.proofs.Answers as answers
+use Prim.Native.Nat.{◌+◌, ◌*◌}
 use Rattle.substitute.proofs.+sub_body_sub_each_sub_head_sub_list.Given as goal
 
 abbrev pub decreases-sub_body : goal.decreases-sub_body

@@ -1,6 +1,5 @@
 -- cons_node: an answer for each need; what carries weight stands in the laws.
 use Rattle.substitute.proofs.Part as part
-use borrow.Author.Rules.{rules}
 use Rattle.substitute.proofs.cons_node.Goals as goal
 
 pub call_node-requires : goal.call_node-requires

@@ -1,6 +1,5 @@
 -- made: an answer for each need; what carries weight stands in the laws.
 use Rattle.substitute.proofs.Bought as bought
-use borrow.Author.Rules.{rules}
 use Rattle.substitute.proofs.made.Goals as goal
 
 pub returns-in-Refused : goal.returns-in-Refused

@@ -1,6 +1,5 @@
 -- part_node: an answer for each need; what carries weight stands in the laws.
 use Rattle.substitute.proofs.Part as part
-use borrow.Author.Rules.{rules}
 use Rattle.substitute.proofs.part_node.Goals as goal
 
 pub returns-then-right : goal.returns-then-right

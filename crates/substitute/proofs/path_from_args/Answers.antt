@@ -1,7 +1,5 @@
 -- path_from_args: an answer for each need; what carries weight stands in the laws.
-use Prim.Native.Nat.{◌-◌}
 use Rattle.substitute.proofs.Turns as turns
-use borrow.Author.Rules.{rules}
 use Rattle.substitute.proofs.path_from_args.Goals as goal
 
 pub loop-i-init : goal.loop-i-init

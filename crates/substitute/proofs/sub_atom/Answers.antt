@@ -1,7 +1,6 @@
 -- sub_atom: an answer for each need; what carries weight stands in the laws.
 use Rattle.substitute.proofs.Turns as turns
 use Rattle.substitute.proofs.Answers as answers
-use borrow.Author.Rules.{rules}
 use Rattle.substitute.proofs.sub_atom.Goals as goal
 
 pub low_node-low-requires : goal.low_node-low-requires

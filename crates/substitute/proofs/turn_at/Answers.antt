@@ -1,6 +1,5 @@
 -- turn_at: an answer for each need; what carries weight stands in the laws.
 use Rattle.substitute.proofs.Turns as turns
-use borrow.Author.Rules.{rules}
 use Rattle.substitute.proofs.turn_at.Goals as goal
 
 pub turn-requires : goal.turn-requires

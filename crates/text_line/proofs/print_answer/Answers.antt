@@ -1,5 +1,4 @@
 -- print_answer: the text, and then the numbers.
-use borrow.Author.Rules.{rules}
 use Rattle.text_line.proofs.Laws as laws
 use Rattle.text_line.proofs.print_answer.Goals as goal
 

@@ -1,5 +1,4 @@
 -- print_evaluated: by what `evaluate_text` says.
-use borrow.Author.Rules.{rules}
 use Rattle.text_line.proofs.Laws as laws
 use Rattle.text_line.proofs.print_evaluated.Goals as goal
 

@@ -1,6 +1,5 @@
 -- print_fault: the place, or that there is none.
 use Rattle.text_line.proofs.Laws as laws
-use borrow.Author.Rules.{rules}
 use Rattle.text_line.proofs.print_fault.Goals as goal
 
 pub returns-in-Refused : goal.returns-in-Refused

@@ -1,5 +1,4 @@
 -- print_ok: the word, and then the text.
-use borrow.Author.Rules.{rules}
 use Rattle.text_line.proofs.Laws as laws
 use Rattle.text_line.proofs.print_ok.Goals as goal
 

@@ -1,5 +1,4 @@
 -- print_optimised: by what `optimise_text` says.
-use borrow.Author.Rules.{rules}
 use Rattle.text_line.proofs.Laws as laws
 use Rattle.text_line.proofs.print_optimised.Goals as goal
 

@@ -1,5 +1,4 @@
 -- print_read: by what `read_text` says.
-use borrow.Author.Rules.{rules}
 use Rattle.text_line.proofs.Laws as laws
 use Rattle.text_line.proofs.print_read.Goals as goal
 

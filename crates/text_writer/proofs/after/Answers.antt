@@ -1,6 +1,5 @@
 -- after: an answer for each need; what carries weight stands in the laws.
 use Rattle.text_writer.proofs.Heads as laws
-use borrow.Author.Rules.{rules}
 use Rattle.text_writer.proofs.after.Goals as goal
 
 pub returns-then-one_at : goal.returns-then-one_at

@@ -1,6 +1,5 @@
 -- atom_length: an answer for each need; what carries weight stands in the laws.
 use Rattle.text_writer.proofs.Endings as laws
-use borrow.Author.Rules.{rules}
 use Rattle.text_writer.proofs.atom_length.Goals as goal
 
 pub returns-then-b-eq0 : goal.returns-then-b-eq0

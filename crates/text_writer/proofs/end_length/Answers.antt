@@ -1,6 +1,5 @@
 -- end_length: an answer for each need; what carries weight stands in the laws.
 use Rattle.text_writer.proofs.Endings as laws
-use borrow.Author.Rules.{rules}
 use Rattle.text_writer.proofs.end_length.Goals as goal
 
 pub returns-then-rest : goal.returns-then-rest

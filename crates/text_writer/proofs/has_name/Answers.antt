@@ -1,6 +1,5 @@
 -- has_name: an answer for each need; what carries weight stands in the laws.
 use Rattle.text_writer.proofs.Names as laws
-use borrow.Author.Rules.{rules}
 use Rattle.text_writer.proofs.has_name.Goals as goal
 
 pub returns-then-b-eq0 : goal.returns-then-b-eq0

@@ -1,6 +1,5 @@
 -- hex_digit: an answer for each need; what carries weight stands in the laws.
 use Rattle.text_writer.proofs.Digits as laws
-use borrow.Author.Rules.{rules}
 use Rattle.text_writer.proofs.hex_digit.Goals as goal
 
 pub returns-then-d-lt10 : goal.returns-then-d-lt10

@@ -1,6 +1,5 @@
 -- is_one: an answer for each need; what carries weight stands in the laws.
 use Rattle.text_writer.proofs.Heads as laws
-use borrow.Author.Rules.{rules}
 use Rattle.text_writer.proofs.is_one.Goals as goal
 
 pub returns-then-b-eq1 : goal.returns-then-b-eq1

@@ -1,6 +1,5 @@
 -- last_length: an answer for each need; what carries weight stands in the laws.
 use Rattle.text_writer.proofs.Endings as laws
-use borrow.Author.Rules.{rules}
 use Rattle.text_writer.proofs.last_length.Goals as goal
 
 pub overflow_add-result : goal.overflow_add-result

@@ -1,6 +1,5 @@
 -- name: an answer for each need; what carries weight stands in the laws.
 use Rattle.text_writer.proofs.Names as laws
-use borrow.Author.Rules.{rules}
 use Rattle.text_writer.proofs.name.Goals as goal
 
 pub returns : goal.returns

@@ -1,6 +1,5 @@
 -- one_at: an answer for each need; what carries weight stands in the laws.
 use Rattle.text_writer.proofs.Heads as laws
-use borrow.Author.Rules.{rules}
 use Rattle.text_writer.proofs.one_at.Goals as goal
 
 pub returns-in-Pair : goal.returns-in-Pair

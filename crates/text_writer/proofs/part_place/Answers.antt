@@ -1,6 +1,5 @@
 -- part_place: an answer for each need; what carries weight stands in the laws.
 use Rattle.text_writer.proofs.Heads as laws
-use borrow.Author.Rules.{rules}
 use Rattle.text_writer.proofs.part_place.Goals as goal
 
 pub returns-then-rest : goal.returns-then-rest

@@ -1,8 +1,5 @@
 -- put_hex: an answer for each need; what carries weight stands in the laws.
-use Prim.Native.Nat.{◌-◌}
-use lib.ListN.{length}
 use Rattle.text_writer.proofs.Digits as laws
-use borrow.Author.Rules.{rules}
 use Rattle.text_writer.proofs.put_hex.Goals as goal
 
 pub loop-i-init : goal.loop-i-init

@@ -1,6 +1,5 @@
 -- answer_of: by the place.
 use Rattle.texts.proofs.Faults as laws
-use borrow.Author.Rules.{rules}
 use Rattle.texts.proofs.answer_of.Goals as goal
 
 pub returns-in-At : goal.returns-in-At

@@ -1,6 +1,5 @@
 -- cut: by the length.
 use Rattle.form.proofs.Both as laws
-use borrow.Author.Rules.{rules}
 use Rattle.texts.proofs.cut.Goals as goal
 
 pub returns-else-first-texts : goal.returns-else-first-texts

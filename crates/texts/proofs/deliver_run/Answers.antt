@@ -1,6 +1,5 @@
 -- deliver_run: by what the run said, and what deliver_text says.
 use Rattle.texts.proofs.Bytes as laws
-use borrow.Author.Rules.{rules}
 use Rattle.texts.proofs.deliver_run.Goals as goal
 
 pub deliver_text-requires : goal.deliver_text-requires

@@ -1,6 +1,5 @@
 -- deliver_units: by what deliver_text says.
 use Rattle.texts.proofs.Bytes as laws
-use borrow.Author.Rules.{rules}
 use Rattle.texts.proofs.deliver_units.Goals as goal
 
 pub returns-in-Over : goal.returns-in-Over

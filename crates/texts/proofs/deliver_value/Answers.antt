@@ -1,6 +1,5 @@
 -- deliver_value: by what deliver_text says.
 use Rattle.texts.proofs.Values as laws
-use borrow.Author.Rules.{rules}
 use Rattle.texts.proofs.deliver_value.Goals as goal
 
 pub returns-in-Over : goal.returns-in-Over

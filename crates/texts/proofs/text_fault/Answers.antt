@@ -1,6 +1,5 @@
 -- text_fault: the place, told once the room is cleared.
 use Rattle.texts.proofs.Faults as laws
-use borrow.Author.Rules.{rules}
 use Rattle.texts.proofs.text_fault.Goals as goal
 
 pub returns-then-room-lt-ROOM : goal.returns-then-room-lt-ROOM

@@ -1,7 +1,6 @@
 -- value_of_forms: the work, and then the delivery.
 use Rattle.texts.proofs.Values as laws
 use Rattle.evaluation.proofs.Bytes.{value_writable}
-use borrow.Author.Rules.{rules}
 use Rattle.texts.proofs.value_of_forms.Goals as goal
 
 pub deliver_value-requires : goal.deliver_value-requires

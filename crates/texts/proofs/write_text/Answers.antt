@@ -1,7 +1,6 @@
 -- write_text: the form is read, and its tree delivered as text.
 use Rattle.texts.proofs.Bytes as laws
 use Rattle.form.proofs.Bytes.{whole_writable}
-use borrow.Author.Rules.{rules}
 use Rattle.texts.proofs.write_text.Goals as goal
 
 pub returns-then-room-lt-ROOM : goal.returns-then-room-lt-ROOM

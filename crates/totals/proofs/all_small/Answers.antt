@@ -1,7 +1,4 @@
 -- all_small: one line a need; the laws are in Summing.
-use Prim.Native.Nat.{◌-◌}
-use lib.ListN.{length}
-use borrow.Author.Rules.{rules}
 use Rattle.totals.proofs.Summing as summing
 use Rattle.totals.proofs.all_small.Goals as goal
 

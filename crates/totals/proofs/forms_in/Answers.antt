@@ -1,7 +1,4 @@
 -- forms_in: one line a need; the laws are in Summing.
-use Prim.Native.Nat.{◌-◌}
-use lib.ListN.{length}
-use borrow.Author.Rules.{rules}
 use Rattle.totals.proofs.Summing as summing
 use Rattle.totals.proofs.forms_in.Goals as goal
 

@@ -1,5 +1,4 @@
 -- is_open: one line a need; the laws are in Summing.
-use borrow.Author.Rules.{rules}
 use Rattle.totals.proofs.Summing as summing
 use Rattle.totals.proofs.is_open.Goals as goal
 

@@ -1,5 +1,4 @@
 -- with_refusal: one line a need; the laws are in Adding.
-use borrow.Author.Rules.{rules}
 use Rattle.totals.proofs.Adding as adding
 use Rattle.totals.proofs.with_refusal.Goals as goal
 

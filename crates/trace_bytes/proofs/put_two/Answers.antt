@@ -1,5 +1,4 @@
 -- put_two: one line a need; the laws are in Putting. Assumes nothing.
-use borrow.Author.Rules.{rules}
 use Rattle.trace_bytes.proofs.Putting as laws
 use Rattle.trace_bytes.proofs.put_two.Goals as goal
 

@@ -1,5 +1,4 @@
 -- starts: one line a need; the laws are in Taking. Assumes nothing.
-use borrow.Author.Rules.{rules}
 use Rattle.trace_bytes.proofs.Taking as laws
 use Rattle.trace_bytes.proofs.starts.Goals as goal
 

@@ -1,5 +1,4 @@
 -- take_trace: one line a need; the laws are in Taking. Assumes nothing.
-use borrow.Author.Rules.{rules}
 use Rattle.trace_bytes.proofs.Taking as laws
 use Rattle.trace_bytes.proofs.take_trace.Goals as goal
 

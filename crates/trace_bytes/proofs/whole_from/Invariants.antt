@@ -1,5 +1,4 @@
 -- whole_from: one line a need; the laws are in Entries. Assumes nothing.
-use borrow.Author.Rules.{rules}
 use Prim.Native.Nat.{◌-◌}
 use lib.ListN.{length}
 use Rattle.trace_bytes.proofs.Entries as laws

@@ -1,6 +1,5 @@
 -- hex_digit: an answer for each need; what carries weight stands in the laws.
 use native.Mathlib.Omega.{arith}
-use borrow.Author.Rules.{rules}
 use borrow.Author.Tests.{lt-ltb, le-ltb}
 use Rattle.lines.proofs.print.hex_digit.Goals as goal
 

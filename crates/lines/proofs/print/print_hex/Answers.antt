@@ -1,8 +1,5 @@
 -- print_hex: an answer for each need; what carries weight stands in the laws.
-use Prim.Native.Nat.{◌-◌}
-use lib.ListN.{length}
 use Rattle.lines.specs.Hex.{hex_of}
-use borrow.Author.Rules.{rules}
 use Rattle.lines.proofs.Printing as printing
 use Rattle.lines.proofs.print.print_hex.Goals as goal
 

@@ -2,7 +2,6 @@
 use Prim.Native.Nat.{◌-◌}
 use lib.ListN.{length}
 use Rattle.lines.specs.Hex.{hex_of}
-use borrow.Author.Rules.{rules}
 use Rattle.lines.proofs.Printing as printing
 use Rattle.lines.proofs.print.print_hex.Given as goal
 

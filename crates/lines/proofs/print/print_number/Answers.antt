@@ -1,5 +1,4 @@
 -- print_number: an answer for each need; what carries weight stands in the laws.
-use borrow.Author.Rules.{rules}
 use Rattle.lines.proofs.Printing as printing
 use Rattle.lines.proofs.print.print_number.Goals as goal
 

@@ -1,8 +1,5 @@
 -- print_numbers: an answer for each need; what carries weight stands in the laws.
-use Prim.Native.Nat.{◌-◌}
-use lib.ListN.{length}
 use Rattle.lines.specs.Text.{numbers_text}
-use borrow.Author.Rules.{rules}
 use Rattle.lines.proofs.Printing as printing
 use Rattle.lines.proofs.print.print_numbers.Goals as goal
 

@@ -1,6 +1,5 @@
 -- print_ok: an answer for each need; what carries weight stands in the laws.
 use Rattle.lines.proofs.Printing as printing
-use borrow.Author.Rules.{rules}
 use Rattle.lines.proofs.print.print_ok.Goals as goal
 
 pub returns : goal.returns

@@ -1,8 +1,6 @@
 -- print_word: an answer for each need; what carries weight stands in the laws.
-use Prim.Native.Nat.{ℕ, ◌-◌}
+use Prim.Native.Nat.{ℕ}
 use mathlib.Core.List.{List}
-use lib.ListN.{length}
-use borrow.Author.Rules.{rules}
 use Rattle.lines.proofs.Printing as printing
 use Rattle.lines.proofs.print.print_word.Goals as goal
 

@@ -1,5 +1,4 @@
 -- put_byte: an answer for each need; what carries weight stands in the laws.
-use borrow.Author.Rules.{rules}
 use Rattle.lines.proofs.Printing as printing
 use Rattle.lines.proofs.print.put_byte.Goals as goal
 

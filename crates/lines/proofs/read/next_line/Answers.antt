@@ -1,11 +1,8 @@
 -- next_line: an answer for each need; what carries weight stands in the laws.
-use Prim.Native.Nat.{◌≤◌}
-use mathlib.Core.Path.{◌≡◌, refl, sym}
-use lib.ListN.{length}
+use mathlib.Core.Path.{refl, sym}
 use lib.Seq.{length-take-le}
 use borrow.Author.Rules.{rules}
-use Rattle.io.specs.Counts.{IsPrefixLen}
-use Rattle.lines.specs.Text.{Waits, still, written}
+use Rattle.lines.specs.Text.{still, written}
 use Rattle.lines.proofs.read.next_line.Goals as goal
 
 pub loop-turns-init : goal.loop-turns-init

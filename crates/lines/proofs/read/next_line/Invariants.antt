@@ -1,11 +1,9 @@
 -- next_line: an answer for each need; what carries weight stands in the laws.
 use Prim.Native.Nat.{◌≤◌}
-use mathlib.Core.Path.{◌≡◌, refl, sym}
+use mathlib.Core.Path.{◌≡◌}
 use lib.ListN.{length}
-use lib.Seq.{length-take-le}
-use borrow.Author.Rules.{rules}
 use Rattle.io.specs.Counts.{IsPrefixLen}
-use Rattle.lines.specs.Text.{Waits, still, written}
+use Rattle.lines.specs.Text.{Waits}
 use Rattle.lines.proofs.read.next_line.Given as goal
 
 abbrev pub invariant-loop-turns : goal.invariant-loop-turns

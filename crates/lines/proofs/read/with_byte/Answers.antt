@@ -1,5 +1,4 @@
 -- with_byte: by how the line spells.
-use borrow.Author.Rules.{rules}
 use Rattle.lines.proofs.Reading as reading
 use Rattle.lines.proofs.read.with_byte.Goals as goal
 

@@ -1,7 +1,4 @@
 -- with_bytes: an answer for each need; what carries weight stands in the laws.
-use Prim.Native.Nat.{◌-◌}
-use lib.ListN.{length}
-use borrow.Author.Rules.{rules}
 use Rattle.lines.proofs.Reading as reading
 use Rattle.lines.proofs.read.with_bytes.Goals as goal
 

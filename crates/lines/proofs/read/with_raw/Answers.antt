@@ -1,5 +1,4 @@
 -- with_raw: an answer for each need; what carries weight stands in the laws.
-use borrow.Author.Rules.{rules}
 use Rattle.lines.proofs.Reading as reading
 use Rattle.lines.proofs.read.with_raw.Goals as goal
 

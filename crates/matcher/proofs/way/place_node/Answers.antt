@@ -1,9 +1,5 @@
 -- place_node: a turn at a time, at most 511 of them.
-use Prim.Native.Nat.{◌-◌}
-use mathlib.Core.List.{[]}
-use borrow.Author.Rules.{rules}
 use Rattle.meaning.specs.Match as meaning
-use Rattle.store.specs.Nodes.{tree_at}
 use Rattle.matcher.proofs.WayLaws as laws
 use Rattle.matcher.proofs.way.place_node.Goals as goal
 

@@ -1,9 +1,5 @@
 -- `paths::casts::bigint_from_bytes` meets its contract. The invariant: the first i bytes, groups turned, are placed. Assumes nothing.
-use Prim.Native.Nat.{◌-◌}
-use lib.ListN.{length}
 use Rattle.paths.proofs.CastLaws as laws
-use Rattle.paths.specs.Fours.{turned}
-use borrow.Author.Rules.{rules}
 use Rattle.paths.proofs.casts.bigint_from_bytes.Goals as goal
 
 pub loop-i-init : goal.loop-i-init

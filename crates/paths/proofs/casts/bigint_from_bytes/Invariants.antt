@@ -3,7 +3,6 @@ use Prim.Native.Nat.{◌-◌}
 use lib.ListN.{length}
 use Rattle.paths.proofs.CastLaws as laws
 use Rattle.paths.specs.Fours.{turned}
-use borrow.Author.Rules.{rules}
 use Rattle.paths.proofs.casts.bigint_from_bytes.Given as goal
 
 abbrev pub invariant-loop-i : goal.invariant-loop-i

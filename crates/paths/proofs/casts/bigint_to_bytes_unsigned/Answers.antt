@@ -1,6 +1,5 @@
 -- `paths::casts::bigint_to_bytes_unsigned` meets its contract. Assumes nothing.
 use Rattle.paths.proofs.ShortestLaws as laws
-use borrow.Author.Rules.{rules}
 use Rattle.paths.proofs.casts.bigint_to_bytes_unsigned.Goals as goal
 
 pub returns : goal.returns

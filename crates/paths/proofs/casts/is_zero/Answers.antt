@@ -1,6 +1,5 @@
 -- `paths::casts::is_zero` meets its contract. Assumes nothing.
 use Rattle.paths.proofs.ShortestLaws as laws
-use borrow.Author.Rules.{rules}
 use Rattle.paths.proofs.casts.is_zero.Goals as goal
 
 pub returns : goal.returns

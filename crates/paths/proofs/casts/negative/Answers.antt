@@ -1,6 +1,5 @@
 -- `paths::casts::negative` meets its contract. Assumes nothing.
 use Rattle.paths.proofs.CastLaws as laws
-use borrow.Author.Rules.{rules}
 use Rattle.paths.proofs.casts.negative.Goals as goal
 
 pub returns-then-b-eq0 : goal.returns-then-b-eq0

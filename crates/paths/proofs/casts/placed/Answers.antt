@@ -1,6 +1,4 @@
 -- `paths::casts::placed` meets its contract. The invariant: the first i bytes are placed. Assumes nothing.
-use Prim.Native.Nat.{◌-◌}
-use lib.ListN.{length}
 use Rattle.paths.proofs.CastLaws as laws
 use borrow.Author.Rules.{rules}
 use Rattle.paths.proofs.casts.placed.Goals as goal

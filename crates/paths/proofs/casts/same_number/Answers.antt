@@ -1,8 +1,5 @@
 -- `paths::casts::same_number` meets its contract. The invariant: the first i of the shortest bytes are the same. Assumes nothing.
-use Prim.Native.Nat.{◌-◌}
-use lib.ListN.{length}
 use Rattle.paths.proofs.CastLaws as laws
-use borrow.Author.Rules.{rules}
 use Rattle.paths.proofs.casts.same_number.Goals as goal
 
 pub returns-then-x-y : goal.returns-then-x-y

@@ -1,8 +1,5 @@
 -- `paths::casts::shortest_signed` meets its contract. The invariant: the bytes from index i on have the same shortest bytes. Assumes nothing.
-use Prim.Native.Nat.{◌-◌}
-use lib.ListN.{length}
 use Rattle.paths.proofs.CastLaws as laws
-use borrow.Author.Rules.{rules}
 use Rattle.paths.proofs.casts.shortest_signed.Goals as goal
 
 pub loop-i-init : goal.loop-i-init

@@ -2,7 +2,6 @@
 use Prim.Native.Nat.{◌-◌}
 use lib.ListN.{length}
 use Rattle.paths.proofs.CastLaws as laws
-use borrow.Author.Rules.{rules}
 use Rattle.paths.proofs.casts.shortest_signed.Given as goal
 
 abbrev pub invariant-loop-i : goal.invariant-loop-i

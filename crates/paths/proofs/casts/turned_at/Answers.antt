@@ -1,6 +1,5 @@
 -- `paths::casts::turned_at` meets its contract. Assumes nothing.
 use Rattle.paths.proofs.FourLaws as laws
-use borrow.Author.Rules.{rules}
 use Rattle.paths.proofs.casts.turned_at.Goals as goal
 
 pub returns-then-i-remain : goal.returns-then-i-remain

@@ -1,6 +1,5 @@
 -- `paths::casts::unsigned` meets its contract. Assumes nothing.
 use Rattle.paths.proofs.CastLaws as laws
-use borrow.Author.Rules.{rules}
 use Rattle.paths.proofs.casts.unsigned.Goals as goal
 
 pub measured-requires : goal.measured-requires

@@ -1,9 +1,5 @@
 -- `paths::casts::zeros` meets its contract. The invariant: the first i bytes are 0. Assumes nothing.
-use Prim.Native.Nat.{◌-◌}
-use lib.ListN.{length}
-use Rattle.paths.specs.Wide.{Zeros}
 use Rattle.paths.proofs.ShortestLaws as laws
-use borrow.Author.Rules.{rules}
 use Rattle.paths.proofs.casts.zeros.Goals as goal
 
 pub loop-i-init : goal.loop-i-init

@@ -2,8 +2,6 @@
 use Prim.Native.Nat.{◌-◌}
 use lib.ListN.{length}
 use Rattle.paths.specs.Wide.{Zeros}
-use Rattle.paths.proofs.ShortestLaws as laws
-use borrow.Author.Rules.{rules}
 use Rattle.paths.proofs.casts.zeros.Given as goal
 
 abbrev pub invariant-loop-i : goal.invariant-loop-i

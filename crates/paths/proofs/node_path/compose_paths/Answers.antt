@@ -1,6 +1,5 @@
 -- `paths::node_path::compose_paths` meets its contract. Assumes nothing.
 use Rattle.paths.proofs.ComposeLaws as laws
-use borrow.Author.Rules.{rules}
 use Rattle.paths.proofs.node_path.compose_paths.Goals as goal
 
 pub returns-then-len-eq0 : goal.returns-then-len-eq0

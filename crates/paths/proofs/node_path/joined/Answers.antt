@@ -1,6 +1,5 @@
 -- `paths::node_path::joined` meets its contract. Assumes nothing.
 use Rattle.paths.proofs.ComposeLaws as laws
-use borrow.Author.Rules.{rules}
 use Rattle.paths.proofs.node_path.joined.Goals as goal
 
 pub overflow_sub-mask : goal.overflow_sub-mask

@@ -1,6 +1,5 @@
 -- `paths::node_path::node_path_index` meets its contract. Assumes nothing.
 use Rattle.paths.proofs.SignedLaws as laws
-use borrow.Author.Rules.{rules}
 use Rattle.paths.proofs.node_path.node_path_index.Goals as goal
 
 pub bigint_from_bytes-requires : goal.bigint_from_bytes-requires

@@ -1,7 +1,6 @@
 -- longer_positive: an answer for each need; what carries weight stands in the laws.
 use Rattle.paths.proofs.LengthenLaws as laws
 use Rattle.paths.proofs.SignedLaws.{held}
-use borrow.Author.Rules.{rules}
 use Rattle.paths.proofs.path_rule.longer_positive.Goals as goal
 
 pub returns-then-s-gt64 : goal.returns-then-s-gt64

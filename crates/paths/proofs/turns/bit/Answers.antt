@@ -1,6 +1,5 @@
 -- `paths::turns::bit` meets its contract. Assumes nothing.
 use Rattle.paths.proofs.TurnLaws as laws
-use borrow.Author.Rules.{rules}
 use Rattle.paths.proofs.turns.bit.Goals as goal
 
 pub returns : goal.returns

@@ -1,6 +1,5 @@
 -- `paths::turns::is_low` meets its contract. Assumes nothing.
 use Rattle.paths.proofs.SignedLaws as laws
-use borrow.Author.Rules.{rules}
 use Rattle.paths.proofs.turns.is_low.Goals as goal
 
 pub returns-then-negative : goal.returns-then-negative

@@ -3,7 +3,6 @@ use Prim.Native.Nat.{◌/◌, ◌<◌}
 use lib.ListN.{length}
 use native.Mathlib.Omega.{arith}
 use Rattle.paths.proofs.TurnLaws as laws
-use borrow.Author.Rules.{rules}
 use Rattle.paths.proofs.turns.turn.Goals as goal
 
 -- the byte of turn i is one of them: i is below the count of turns, each byte of the shortest ones has 8

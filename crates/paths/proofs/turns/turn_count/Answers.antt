@@ -1,6 +1,5 @@
 -- `paths::turns::turn_count` meets its contract. Assumes nothing.
 use Rattle.paths.proofs.TurnLaws as laws
-use borrow.Author.Rules.{rules}
 use Rattle.paths.proofs.turns.turn_count.Goals as goal
 
 pub returns-then-z-b : goal.returns-then-z-b

@@ -1,6 +1,5 @@
 -- fault_of_text: the limit, then how the machine ends. Assumes nothing.
 use Rattle.text_reader.proofs.ConvertLaws as laws
-use borrow.Author.Rules.{rules}
 use Rattle.text_reader.proofs.convert.fault_of_text.Goals as goal
 
 pub returns-then-text-gt-TEXT : goal.returns-then-text-gt-TEXT

@@ -1,6 +1,5 @@
 -- finish: a form too long, or its length. Assumes nothing.
 use Rattle.text_reader.proofs.ConvertLaws as laws
-use borrow.Author.Rules.{rules}
 use Rattle.text_reader.proofs.convert.finish.Goals as goal
 
 pub returns-then-g : goal.returns-then-g

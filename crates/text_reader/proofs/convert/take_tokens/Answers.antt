@@ -1,7 +1,4 @@
 -- take_tokens: token by token, until the text ends or does not parse. Assumes nothing.
-use Prim.Native.Nat.{◌-◌, ◌+◌}
-use mathlib.Core.Path.{◌≡◌}
-use lib.ListN.{length}
 use Rattle.text_reader.proofs.ConvertLaws as laws
 use borrow.Author.Rules.{rules}
 use Rattle.text_reader.proofs.convert.take_tokens.Goals as goal

@@ -3,7 +3,6 @@ use Prim.Native.Nat.{◌-◌, ◌+◌}
 use mathlib.Core.Path.{◌≡◌}
 use lib.ListN.{length}
 use Rattle.text_reader.proofs.ConvertLaws as laws
-use borrow.Author.Rules.{rules}
 use Rattle.text_reader.proofs.convert.take_tokens.Given as goal
 
 abbrev pub invariant-loop-r : goal.invariant-loop-r

@@ -1,6 +1,5 @@
 -- emit_atom: its length where it needs one, then its bytes. Assumes nothing.
 use Rattle.text_reader.proofs.EmitLaws as laws
-use borrow.Author.Rules.{rules}
 use Rattle.text_reader.proofs.emit.emit_atom.Goals as goal
 
 pub returns-then-b-ge-FORM : goal.returns-then-b-ge-FORM

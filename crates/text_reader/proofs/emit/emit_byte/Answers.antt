@@ -1,6 +1,5 @@
 -- emit_byte: by the room that is left. Assumes nothing.
 use Rattle.text_reader.proofs.EmitLaws as laws
-use borrow.Author.Rules.{rules}
 use Rattle.text_reader.proofs.emit.emit_byte.Goals as goal
 
 pub returns-then-g : goal.returns-then-g

@@ -1,8 +1,5 @@
 -- emit_bytes: i bytes stand after what stood. Assumes nothing.
-use Prim.Native.Nat.{◌-◌}
-use lib.ListN.{length}
 use Rattle.text_reader.proofs.EmitLaws as laws
-use borrow.Author.Rules.{rules}
 use Rattle.text_reader.proofs.emit.emit_bytes.Goals as goal
 
 pub returns-then-g : goal.returns-then-g

@@ -1,6 +1,5 @@
 -- emit_length: a prefix of one byte or two. Assumes nothing.
 use Rattle.text_reader.proofs.EmitLaws as laws
-use borrow.Author.Rules.{rules}
 use Rattle.text_reader.proofs.emit.emit_length.Goals as goal
 
 pub returns-then-n-lt64 : goal.returns-then-n-lt64

@@ -1,6 +1,5 @@
 -- emit_pair: one byte or none. Assumes nothing.
 use Rattle.text_reader.proofs.EmitLaws as laws
-use borrow.Author.Rules.{rules}
 use Rattle.text_reader.proofs.emit.emit_pair.Goals as goal
 
 pub returns-then-pair : goal.returns-then-pair

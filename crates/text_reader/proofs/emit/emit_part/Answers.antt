@@ -1,6 +1,5 @@
 -- emit_part: ff, then the atom. Assumes nothing.
 use Rattle.text_reader.proofs.EmitLaws as laws
-use borrow.Author.Rules.{rules}
 use Rattle.text_reader.proofs.emit.emit_part.Goals as goal
 
 pub returns : goal.returns

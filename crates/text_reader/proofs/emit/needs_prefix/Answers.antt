@@ -1,6 +1,5 @@
 -- needs_prefix: by the length. Assumes nothing.
 use Rattle.text_reader.proofs.EmitLaws as laws
-use borrow.Author.Rules.{rules}
 use Rattle.text_reader.proofs.emit.needs_prefix.Goals as goal
 
 pub returns-then-b-eq0 : goal.returns-then-b-eq0

@@ -1,6 +1,5 @@
 -- after_atom: after a head of 1 all is data. Assumes nothing.
 use Rattle.text_reader.proofs.MachineLaws as laws
-use borrow.Author.Rules.{rules}
 use Rattle.text_reader.proofs.machine.after_atom.Goals as goal
 
 pub returns-then-one : goal.returns-then-one

@@ -1,6 +1,5 @@
 -- after_part: by what is wanted. Assumes nothing.
 use Rattle.text_reader.proofs.MachineLaws as laws
-use borrow.Author.Rules.{rules}
 use Rattle.text_reader.proofs.machine.after_part.Goals as goal
 
 pub returns-in-Whole : goal.returns-in-Whole

@@ -1,6 +1,5 @@
 -- at_end: where nothing is wanted. Assumes nothing.
 use Rattle.text_reader.proofs.MachineLaws as laws
-use borrow.Author.Rules.{rules}
 use Rattle.text_reader.proofs.machine.at_end.Goals as goal
 
 pub returns-in-Nothing : goal.returns-in-Nothing

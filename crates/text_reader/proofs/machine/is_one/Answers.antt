@@ -1,6 +1,5 @@
 -- is_one: one byte, which is 1. Assumes nothing.
 use Rattle.text_reader.proofs.MachineLaws as laws
-use borrow.Author.Rules.{rules}
 use Rattle.text_reader.proofs.machine.is_one.Goals as goal
 
 pub returns-then-b-eq1 : goal.returns-then-b-eq1

@@ -1,6 +1,5 @@
 -- on_atom: ff where a pair begins, and the atom. Assumes nothing.
 use Rattle.text_reader.proofs.MachineLaws as laws
-use borrow.Author.Rules.{rules}
 use Rattle.text_reader.proofs.machine.on_atom.Goals as goal
 
 pub returns-in-Atom : goal.returns-in-Atom

@@ -1,6 +1,5 @@
 -- on_close: nil at a list's end, and a frame less. Assumes nothing.
 use Rattle.text_reader.proofs.MachineLaws as laws
-use borrow.Author.Rules.{rules}
 use Rattle.text_reader.proofs.machine.on_close.Goals as goal
 
 pub returns-in-First : goal.returns-in-First

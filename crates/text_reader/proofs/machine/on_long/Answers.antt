@@ -1,6 +1,5 @@
 -- on_long: as after any atom but the byte 1, and the form is too long. Assumes nothing.
 use Rattle.text_reader.proofs.MachineLaws as laws
-use borrow.Author.Rules.{rules}
 use Rattle.text_reader.proofs.machine.on_long.Goals as goal
 
 pub returns-in-Atom : goal.returns-in-Atom

@@ -1,6 +1,5 @@
 -- on_open: a frame more, and ff where a pair begins. Assumes nothing.
 use Rattle.text_reader.proofs.MachineLaws as laws
-use borrow.Author.Rules.{rules}
 use Rattle.text_reader.proofs.machine.on_open.Goals as goal
 
 pub returns-in-List : goal.returns-in-List

@@ -1,6 +1,5 @@
 -- opened_in: by what is wanted. Assumes nothing.
 use Rattle.text_reader.proofs.MachineLaws as laws
-use borrow.Author.Rules.{rules}
 use Rattle.text_reader.proofs.machine.opened_in.Goals as goal
 
 pub returns-in-Whole : goal.returns-in-Whole

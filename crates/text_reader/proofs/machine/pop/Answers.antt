@@ -1,6 +1,5 @@
 -- pop: the number in the last frame. Assumes nothing.
 use Rattle.text_reader.proofs.MachineLaws as laws
-use borrow.Author.Rules.{rules}
 use Rattle.text_reader.proofs.machine.pop.Goals as goal
 
 pub returns-then-depth-eq0 : goal.returns-then-depth-eq0

@@ -1,6 +1,5 @@
 -- turned: a step as a turn. Assumes nothing.
 use Rattle.text_reader.proofs.MachineLaws as laws
-use borrow.Author.Rules.{rules}
 use Rattle.text_reader.proofs.machine.turned.Goals as goal
 
 pub returns-in-On : goal.returns-in-On

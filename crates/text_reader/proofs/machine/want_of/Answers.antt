@@ -1,6 +1,5 @@
 -- want_of: by its number. Assumes nothing.
 use Rattle.text_reader.proofs.MachineLaws as laws
-use borrow.Author.Rules.{rules}
 use Rattle.text_reader.proofs.machine.want_of.Goals as goal
 
 pub returns-then-k-eq0 : goal.returns-then-k-eq0

@@ -1,6 +1,5 @@
 -- is_blank: by the kind. Assumes nothing.
 use Rattle.text_reader.proofs.KindLaws as laws
-use borrow.Author.Rules.{rules}
 use Rattle.text_reader.proofs.scan.is_blank.Goals as goal
 
 pub returns-in-Blank : goal.returns-in-Blank

@@ -1,6 +1,5 @@
 -- is_plain: by the kind. Assumes nothing.
 use Rattle.text_reader.proofs.KindLaws as laws
-use borrow.Author.Rules.{rules}
 use Rattle.text_reader.proofs.scan.is_plain.Goals as goal
 
 pub returns-in-Plain : goal.returns-in-Plain

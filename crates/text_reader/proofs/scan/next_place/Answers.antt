@@ -1,6 +1,5 @@
 -- next_place: by the token. Assumes nothing.
 use Rattle.text_reader.proofs.ScanLaws as laws
-use borrow.Author.Rules.{rules}
 use Rattle.text_reader.proofs.scan.next_place.Goals as goal
 
 pub overflow_sub-result : goal.overflow_sub-result

@@ -1,8 +1,5 @@
 -- quote_end: the quote goes on at i. Assumes nothing.
-use Prim.Native.Nat.{◌-◌}
-use lib.ListN.{length}
 use Rattle.text_reader.proofs.ScanLaws as laws
-use borrow.Author.Rules.{rules}
 use Rattle.text_reader.proofs.scan.quote_end.Goals as goal
 
 pub loop-i-init : goal.loop-i-init

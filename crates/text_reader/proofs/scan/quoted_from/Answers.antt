@@ -1,6 +1,5 @@
 -- quoted_from: by how the quote ends. Assumes nothing.
 use Rattle.text_reader.proofs.ScanLaws as laws
-use borrow.Author.Rules.{rules}
 use Rattle.text_reader.proofs.scan.quoted_from.Goals as goal
 
 pub returns-in-At : goal.returns-in-At

@@ -1,8 +1,5 @@
 -- skip: what stands before i only separates. Assumes nothing.
-use Prim.Native.Nat.{◌-◌}
-use lib.ListN.{length}
 use Rattle.text_reader.proofs.ScanLaws as laws
-use borrow.Author.Rules.{rules}
 use Rattle.text_reader.proofs.scan.skip.Goals as goal
 
 pub loop-i-init : goal.loop-i-init

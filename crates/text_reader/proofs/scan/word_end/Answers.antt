@@ -1,8 +1,5 @@
 -- word_end: the word goes on at i. Assumes nothing.
-use Prim.Native.Nat.{◌-◌}
-use lib.ListN.{length}
 use Rattle.text_reader.proofs.ScanLaws as laws
-use borrow.Author.Rules.{rules}
 use Rattle.text_reader.proofs.scan.word_end.Goals as goal
 
 pub loop-i-init : goal.loop-i-init

@@ -1,6 +1,5 @@
 -- word_from: by the length and the first byte. Assumes nothing.
 use Rattle.text_reader.proofs.ScanLaws as laws
-use borrow.Author.Rules.{rules}
 use Rattle.text_reader.proofs.scan.word_from.Goals as goal
 
 pub returns-then-text-at-eq46 : goal.returns-then-text-at-eq46

@@ -1,6 +1,5 @@
 -- begins_hex: by the length and the first two bytes. Assumes nothing.
 use Rattle.text_reader.proofs.HexLaws as laws
-use borrow.Author.Rules.{rules}
 use Rattle.text_reader.proofs.words.begins_hex.Goals as goal
 
 pub returns-then-w-lt3 : goal.returns-then-w-lt3

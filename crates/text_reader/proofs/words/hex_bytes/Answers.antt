@@ -1,7 +1,5 @@
 -- hex_bytes: i bytes are spelled. Assumes nothing.
-use Prim.Native.Nat.{◌-◌}
 use Rattle.text_reader.proofs.DigitsLaws as laws
-use borrow.Author.Rules.{rules}
 use Rattle.text_reader.proofs.words.hex_bytes.Goals as goal
 
 pub returns-then-w-eq1 : goal.returns-then-w-eq1

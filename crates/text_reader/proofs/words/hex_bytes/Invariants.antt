@@ -1,7 +1,6 @@
 -- hex_bytes: i bytes are spelled. Assumes nothing.
 use Prim.Native.Nat.{◌-◌}
 use Rattle.text_reader.proofs.DigitsLaws as laws
-use borrow.Author.Rules.{rules}
 use Rattle.text_reader.proofs.words.hex_bytes.Given as goal
 
 abbrev pub invariant-loop-i : goal.invariant-loop-i

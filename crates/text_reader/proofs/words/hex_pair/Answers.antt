@@ -1,6 +1,5 @@
 -- hex_pair: by the two digits. Assumes nothing.
 use Rattle.text_reader.proofs.HexLaws as laws
-use borrow.Author.Rules.{rules}
 use Rattle.text_reader.proofs.words.hex_pair.Goals as goal
 
 pub returns-then-h-eq16 : goal.returns-then-h-eq16

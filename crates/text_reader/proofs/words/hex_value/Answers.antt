@@ -1,6 +1,5 @@
 -- hex_value: stretch by stretch. Assumes nothing.
 use Rattle.text_reader.proofs.HexLaws as laws
-use borrow.Author.Rules.{rules}
 use Rattle.text_reader.proofs.words.hex_value.Goals as goal
 
 pub returns-then-c-lt48 : goal.returns-then-c-lt48

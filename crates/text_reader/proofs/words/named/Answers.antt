@@ -1,6 +1,5 @@
 -- named: by the place and the length. Assumes nothing.
 use Rattle.text_reader.proofs.NameLaws as laws
-use borrow.Author.Rules.{rules}
 use Rattle.text_reader.proofs.words.named.Goals as goal
 
 pub returns-then-w-eq1 : goal.returns-then-w-eq1
