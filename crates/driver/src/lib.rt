@@ -26,7 +26,7 @@ use store::{Cell, Charges};
 use substitute::Sub;
 
 // Works a list's elements left to right, 48 at a time; what was found goes down, the verdict comes up, and then the list is made.
-#[cycle(children_optimizer_drive_operands_optimizer_settle_turn_var_change_optimizer_cons_eval)]
+#[cycle(driving)]
 fn operands(
     form: &[u8],
     room: &mut [u8],
@@ -100,7 +100,7 @@ fn operands(
 // ---- 4. `var_change_optimizer_cons_eval`
 
 // What becomes of the changed body `new` of r.
-#[cycle(children_optimizer_drive_operands_optimizer_settle_turn_var_change_optimizer_cons_eval)]
+#[cycle(driving)]
 fn settle(
     form: &[u8],
     room: &mut [u8],
@@ -138,7 +138,7 @@ fn settle(
     s
 }
 
-#[cycle(children_optimizer_drive_operands_optimizer_settle_turn_var_change_optimizer_cons_eval)]
+#[cycle(driving)]
 fn var_change_optimizer_cons_eval(
     form: &[u8],
     room: &mut [u8],
@@ -185,7 +185,7 @@ fn var_change_optimizer_cons_eval(
 
 // ---- 5. `children_optimizer`
 
-#[cycle(children_optimizer_drive_operands_optimizer_settle_turn_var_change_optimizer_cons_eval)]
+#[cycle(driving)]
 fn children_optimizer(
     form: &[u8],
     room: &mut [u8],
@@ -217,7 +217,7 @@ fn children_optimizer(
 
 // ---- the rules, by number
 
-#[cycle(children_optimizer_drive_operands_optimizer_settle_turn_var_change_optimizer_cons_eval)]
+#[cycle(driving)]
 fn optimizer(
     form: &[u8],
     room: &mut [u8],
@@ -248,7 +248,7 @@ fn optimizer(
 // ---- the driver
 
 // One turn of the driver's loop: a pass on a pair, in which the first rule that changes the node ends it; nothing on an atom.
-#[cycle(children_optimizer_drive_operands_optimizer_settle_turn_var_change_optimizer_cons_eval)]
+#[cycle(driving)]
 fn turn(
     form: &[u8],
     room: &mut [u8],
@@ -300,7 +300,7 @@ fn turn(
 }
 
 // `optimize_sexp_` at nesting `nest`: what the memo says; else turns until none changes the node, and then an entry. Same where none did.
-#[cycle(children_optimizer_drive_operands_optimizer_settle_turn_var_change_optimizer_cons_eval)]
+#[cycle(driving)]
 pub fn drive(
     form: &[u8],
     room: &mut [u8],

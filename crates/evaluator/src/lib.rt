@@ -341,7 +341,7 @@ fn with(v: Values, k: usize, n: usize) -> Values
 }
 
 // The values of all arguments, left to right.
-#[cycle(call_eval_each_eval_node_step)]
+#[cycle(evaluating)]
 fn eval_each(form: &[u8], room: &mut [u8], m: Meter, list: usize, env: usize) -> Args
     requires { Ready form.now room.old m.ch list × Ready form.now room.old m.ch env }
     ensures { ArgsOk form.now room.old room.new m (each_value_b evaluate (items (tree_in form.now room.old list)) (tree_in form.now room.old env) (state m)) result }
@@ -372,7 +372,7 @@ fn eval_each(form: &[u8], room: &mut [u8], m: Meter, list: usize, env: usize) ->
 
 // A call of an operator: the argument list and its count first, then all arguments, then what they are. A program under `a` is left
 // to run.
-#[cycle(call_eval_each_eval_node_step)]
+#[cycle(evaluating)]
 fn call(form: &[u8], room: &mut [u8], m: Meter, op: Operator, list: usize, env: usize) -> Performed
     requires { Ready form.now room.old m.ch list × Ready form.now room.old m.ch env }
     ensures { PerformedOk form.now room.old room.new m (call_b evaluate (op_of op) (proper_list (tree_in form.now room.old list)) (tree_in form.now room.old env) (state m)) result }
@@ -387,7 +387,7 @@ fn call(form: &[u8], room: &mut [u8], m: Meter, op: Operator, list: usize, env: 
 }
 
 // An expression whose step is taken: a path, a quote, or a call.
-#[cycle(call_eval_each_eval_node_step)]
+#[cycle(evaluating)]
 fn step(form: &[u8], room: &mut [u8], m: Meter, e: usize, env: usize) -> Performed
     requires { Ready form.now room.old m.ch e × Ready form.now room.old m.ch env }
     ensures { PerformedOk form.now room.old room.new m (step_b evaluate (tree_in form.now room.old e) (tree_in form.now room.old env) (state m)) result }
@@ -404,7 +404,7 @@ fn step(form: &[u8], room: &mut [u8], m: Meter, e: usize, env: usize) -> Perform
 
 // The value of the expression e in env. Every expression takes a step as it begins. The loop goes on with the program under an `a`,
 // so that one that calls itself in the last place takes no stack.
-#[cycle(call_eval_each_eval_node_step)]
+#[cycle(evaluating)]
 pub fn eval_node(form: &[u8], room: &mut [u8], m: Meter, e: usize, env: usize) -> Valued
     requires { Ready form.now room.old m.ch e × Ready form.now room.old m.ch env }
     ensures { ValuedOk form.now room.old room.new m (evaluate (tree_in form.now room.old e) (tree_in form.now room.old env) (state m)) result }

@@ -28,7 +28,7 @@ use Rattle.form.specs.declared.Length.TheVariants.{Long, Refused as no_length}
 use Rattle.form.specs.declared.Reading.{Reading as Answer}
 use Rattle.form.specs.declared.Reading.TheVariants.{Node, Refused}
 use Rattle.form.specs.declared.Closed.{Closed}
-use Rattle.form.specs.declared.Closed.TheVariants.{Node as Closed-at, Refused as not-closed}
+use Rattle.form.specs.declared.Closed.TheVariants.{Node as closed_at, Refused as not-closed}
 use Rattle.form.specs.Spans.{span, left_from, next_tree, Stops, LengthOk}
 use Rattle.form.specs.Reads.{Stretch, ReadTo, ReadOk, reading_of}
 use Rattle.form.specs.Waits.{resume, Waits, ClosedTo, ClosedStops, ClosedOk}
@@ -146,17 +146,17 @@ pub close_starts : (f s w : List ℕ) (k q : ℕ) (c : Charges) → Ready f s c 
 close_starts f s w k q c r a = record { fewer = omega arith; grown = grown_none f s c r.held; ready = r; waits = a; free = refl; is = λ l. refl }
 
 module _ (f s₀ s w : List ℕ) (k q : ℕ) (c₀ c : Charges) (node left : ℕ) (a : Closing f s₀ s w k q c₀ c node left) where
-  closed : (0 < left → get_or w (left - 1) 0 ≡ 0xffff) → ClosedOk f s₀ s w k q c₀ (Closed-at node left c)
+  closed : (0 < left → get_or w (left - 1) 0 ≡ 0xffff) → ClosedOk f s₀ s w k q c₀ (closed_at node left c)
   unfolding ClosedOk
   closed h = record { fewer = a.fewer; opened = h; grown = a.grown; ready = a.ready; free = a.free; is = a.is }
 
-  pub close_all : left ≤ 0 → ClosedOk f s₀ s w k q c₀ (Closed-at node left c)
+  pub close_all : left ≤ 0 → ClosedOk f s₀ s w k q c₀ (closed_at node left c)
   close_all h = closed (λ o. absurd (omega arith))
 
   pub close_within : 0 < left → left - 1 < length w
   close_within h = omega (arith, a.waits.within)
 
-  pub close_open : get_or w (left - 1) 0 ≡ 0xffff → ClosedOk f s₀ s w k q c₀ (Closed-at node left c)
+  pub close_open : get_or w (left - 1) 0 ≡ 0xffff → ClosedOk f s₀ s w k q c₀ (closed_at node left c)
   close_open z = closed (λ o. z)
 
   module _ (h : 0 < left) (n : get_or w (left - 1) 0 ≡ 0xffff → ⊥) where
@@ -294,7 +294,7 @@ module _ {f s₀ s w : List ℕ} {end at : ℕ} {c₀ c : Charges} {k next : ℕ
           unfolding ReadOk ClosedOk
           going_over {n} i = let y : ClosedStops f s₁ w k q c₁ n = rw i at b in same_stops whole (y.is (span f m end))
 
-          module _ {p j : ℕ} {d : Charges} (i : x ≡ Closed-at p j d) where
+          module _ {p j : ℕ} {d : Charges} (i : x ≡ closed_at p j d) where
             by : ClosedTo f s₁ s₂ w k q c₁ d p j
             unfolding ClosedOk
             by = rw i at b

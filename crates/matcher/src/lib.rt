@@ -39,7 +39,7 @@ pub enum MatchAnswer {
 
 // The answer; and the place at which the expression first disagrees with the pattern, a path in 64 bytes, big-endian: zero where it
 // is deeper, and beside every other answer.
-#[derive(Drop)]
+#[derive(Clone, Copy)]
 pub struct Matching {
     pub answer: MatchAnswer,
     pub place: [u8; 64],
@@ -55,7 +55,7 @@ pub(crate) enum Said {
 }
 
 // And the place of a failure.
-#[derive(Drop)]
+#[derive(Clone, Copy)]
 pub(crate) struct Worked {
     pub(crate) said: Said,
     pub(crate) place: [u8; 64],

@@ -1,7 +1,7 @@
 -- The three demands, in words and as theorems about the definitions. Assumes nothing.
 --
 -- What a run is: `run form room-length out-length` (specs/Run.antt), the form's bytes and how much room and output are lent, to
--- `finished bytes passes units mark` or `refused n`; `out_after` and `Room-after` (specs/Outcome.antt) say what every lent byte holds then.
+-- `finished bytes passes units mark` or `refused n`; `out_after` and `room_after` (specs/Outcome.antt) say what every lent byte holds then.
 use Prim.Native.Nat.{ℕ, ◌≤◌}
 use mathlib.Core.Path.{◌≡◌, refl, subst}
 use mathlib.Core.List.{List, []}

@@ -32,10 +32,10 @@ not_less m n h = leb_no (suc m) n (omega arith)
 
 -- how many bytes more follow the first
 pub data Size : Type 0 where
-  NoneMore one_more two_more three_more four_more : Size
+  none_more one_more two_more three_more four_more : Size
 
 unfoldable pub bytes_more : Size → ℕ
-bytes_more NoneMore = 0
+bytes_more none_more = 0
 bytes_more one_more = 1
 bytes_more two_more = 2
 bytes_more three_more = 3
@@ -43,7 +43,7 @@ bytes_more four_more = 4
 
 -- the first bytes: from here
 unfoldable pub from : Size → ℕ
-from NoneMore = 0x80
+from none_more = 0x80
 from one_more = 0xc0
 from two_more = 0xe0
 from three_more = 0xf0
@@ -51,7 +51,7 @@ from four_more = 0xf8
 
 -- how many first bytes
 unfoldable pub firsts : Size → ℕ
-firsts NoneMore = 0x40
+firsts none_more = 0x40
 firsts one_more = 0x20
 firsts two_more = 0x10
 firsts three_more = 8
@@ -59,7 +59,7 @@ firsts four_more = 4
 
 -- the least length: what no shorter prefix can say
 unfoldable pub least : Size → ℕ
-least NoneMore = 0
+least none_more = 0
 least one_more = 0x40
 least two_more = 0x2000
 least three_more = 0x10_0000
@@ -79,7 +79,7 @@ pub record Begins (z : Size) (p : ℕ) : Type 0 where
 pub size_of : (n : ℕ) → n < 2 ^ 34 → (z : Size) × Says z n
 unfolding least firsts bytes_more
 size_of n h =
-    on_bool (ltb n 0x40) (λ e. (NoneMore, record { enough = omega arith; below = ltb_yes n _ e }))
+    on_bool (ltb n 0x40) (λ e. (none_more, record { enough = omega arith; below = ltb_yes n _ e }))
     (λ e. on_bool (ltb n 0x2000) (λ f. (one_more, record { enough = ltb_no n _ e; below = ltb_yes n _ f }))
     (λ f. on_bool (ltb n 0x10_0000) (λ g. (two_more, record { enough = ltb_no n _ f; below = ltb_yes n _ g }))
     (λ g. on_bool (ltb n 0x800_0000) (λ i. (three_more, record { enough = ltb_no n _ g; below = ltb_yes n _ i }))
@@ -88,7 +88,7 @@ size_of n h =
 -- the writer, by size
 pub write_sized : (z : Size) (n : ℕ) → Says z n → write_length n ≡ (from z + n / 256 ^ bytes_more z) ∷ digits (bytes_more z) n
 unfolding least firsts bytes_more from digits write_length
-write_sized NoneMore n h = let l = h.below in rw (less n 0x40 l, div-one n, write_length)
+write_sized none_more n h = let l = h.below in rw (less n 0x40 l, div-one n, write_length)
 write_sized one_more n h = let k = h.enough in let l = h.below in rw (not_less n 0x40 k, less n 0x2000 l, div-one n, write_length)
 write_sized two_more n h = let k = h.enough in let l = h.below in rw (not_less n 0x40 (omega arith), not_less n 0x2000 k, less n 0x10_0000 l, div-one n, write_length)
 write_sized three_more n h =
@@ -101,7 +101,7 @@ write_sized four_more n h =
 -- the reader, by size
 pub length_sized : (z : Size) (p : ℕ) → Begins z p → (s : Reading) → length_from p s ≡ more (bytes_more z) (p - from z) s
 unfolding firsts bytes_more from length_from more give
-length_sized NoneMore p h s = let l = h.below in rw (less p 0xc0 l, length_from)
+length_sized none_more p h s = let l = h.below in rw (less p 0xc0 l, length_from)
 length_sized one_more p h s = let k = h.enough in let l = h.below in rw (not_less p 0xc0 k, less p 0xe0 l, length_from)
 length_sized two_more p h s = let k = h.enough in let l = h.below in rw (not_less p 0xc0 (omega arith), not_less p 0xe0 k, less p 0xf0 l, length_from)
 length_sized three_more p h s =
@@ -115,7 +115,7 @@ length_sized four_more p h s =
 begins : (p : ℕ) → 0x80 ≤ p → p < 0xfc → (z : Size) × Begins z p
 unfolding from firsts
 begins p k h =
-    on_bool (ltb p 0xc0) (λ e. (NoneMore, record { enough = k; below = ltb_yes p _ e }))
+    on_bool (ltb p 0xc0) (λ e. (none_more, record { enough = k; below = ltb_yes p _ e }))
     (λ e. on_bool (ltb p 0xe0) (λ f. (one_more, record { enough = ltb_no p _ e; below = ltb_yes p _ f }))
     (λ f. on_bool (ltb p 0xf0) (λ g. (two_more, record { enough = ltb_no p _ f; below = ltb_yes p _ g }))
     (λ g. on_bool (ltb p 0xf8) (λ i. (three_more, record { enough = ltb_no p _ g; below = ltb_yes p _ i }))
@@ -128,7 +128,7 @@ not_carried p k s =
 
 below_all : (z : Size) (n : ℕ) → n < firsts z * 256 ^ bytes_more z → n < 2 ^ 34
 unfolding firsts bytes_more
-below_all NoneMore n h = omega arith
+below_all none_more n h = omega arith
 below_all one_more n h = omega arith
 below_all two_more n h = omega arith
 below_all three_more n h = omega arith
@@ -163,7 +163,7 @@ short_four n h =
 
 overlong : (z : Size) (n : ℕ) → n < least z → length (write_length n) ≤ bytes_more z
 unfolding least bytes_more
-overlong NoneMore n h = absurd (omega arith)
+overlong none_more n h = absurd (omega arith)
 overlong one_more n h = short_one n h
 overlong two_more n h = short_two n h
 overlong three_more n h = short_three n h
@@ -220,7 +220,7 @@ prefix_inv p n s t k h =
 -- a written prefix is neither nil's byte nor a pair's, nor an atom by itself
 pub first_long : (z : Size) (n : ℕ) → Says z n → 0 < n → 0x80 < from z + n / 256 ^ bytes_more z
 unfolding from bytes_more
-first_long NoneMore n h k = let e : n / 1 ≡ n = div-one n in omega arith
+first_long none_more n h k = let e : n / 1 ≡ n = div-one n in omega arith
 first_long one_more n h k = omega arith
 first_long two_more n h k = omega arith
 first_long three_more n h k = omega arith
@@ -231,7 +231,7 @@ unfolding from firsts
 first_short z n h = go z ((quotient z n).1 h.below)
   where
     go : (z : Size) {q : ℕ} → q < firsts z → from z + q < 0xff
-    go NoneMore k = omega arith
+    go none_more k = omega arith
     go one_more k = omega arith
     go two_more k = omega arith
     go three_more k = omega arith

@@ -6,7 +6,7 @@ ghost use Rattle.paths.specs.Wide.{Wide, Zeros, Shortest, Holds};
 
 // A number below 256 ^ 65: its bytes are big-endian and right-aligned with zeros before them, and the last `len` are its shortest.
 // The byte over the 64 of an atom is for the path that the path rule makes of one.
-#[derive(Drop)]
+#[derive(Clone, Copy)]
 pub struct Number {
     pub bytes: [u8; 65],
     pub len: usize,

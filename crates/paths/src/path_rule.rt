@@ -10,7 +10,7 @@ use crate::casts::{
 use crate::node_path::{compose_paths, node_path_index};
 
 // What the path rule makes of an atom: the longer path, and whether the atom's index differs from its unsigned number.
-#[derive(Drop)]
+#[derive(Clone, Copy)]
 pub struct Lengthened {
     pub path: Number,
     pub misread: bool,

@@ -8,7 +8,7 @@ ghost use Rattle.store.specs.Makers.{Answered};
 
 use store::{Cell, Charges};
 
-#[cycle(seems_constant_seems_constant_tail)]
+#[cycle(seeming)]
 pub fn seems_constant(form: &[u8], room: &mut [u8], ch: Charges, n: usize) -> bool
     requires { Ready form.now room.old ch n }
     ensures { Answered form.now room.old room.new ch result (seems_constant (tree_in form.now room.old n)) }
@@ -44,7 +44,7 @@ pub fn seems_constant(form: &[u8], room: &mut [u8], ch: Charges, n: usize) -> bo
     }
 }
 
-#[cycle(seems_constant_seems_constant_tail)]
+#[cycle(seeming)]
 pub fn seems_constant_tail(form: &[u8], room: &mut [u8], ch: Charges, n: usize) -> bool
     requires { Ready form.now room.old ch n }
     ensures { Answered form.now room.old room.new ch result (seems_constant_tail (tree_in form.now room.old n)) }

@@ -211,7 +211,7 @@ fn prints_differ<'a>(form: &'a [u8], room: &'a [u8], ch: Charges, a: usize, b: u
 }
 
 // Rust's `equal_to`. Pairs found equal are joined, so that no two records are found equal twice.
-#[cycle(equal_node_equal_records)]
+#[cycle(equality)]
 pub fn equal_node(form: &[u8], room: &mut [u8], ch: Charges, x: usize, y: usize) -> bool
     requires { Ready form.now room.old ch x × Ready form.now room.old ch y }
     ensures { Answered form.now room.old room.new ch result (equal_to (tree_in form.now room.old x) (tree_in form.now room.old y)) }
@@ -225,7 +225,7 @@ pub fn equal_node(form: &[u8], room: &mut [u8], ch: Charges, x: usize, y: usize)
 }
 
 // The parts of two pairs are compared only where the fingerprints are the same; then equal pairs are joined.
-#[cycle(equal_node_equal_records)]
+#[cycle(equality)]
 fn equal_records(form: &[u8], room: &mut [u8], ch: Charges, a: usize, b: usize) -> bool
     requires { Ready form.now room.old ch a × Ready form.now room.old ch b }
     ensures { Answered form.now room.old room.new ch result (equal_to (tree_in form.now room.old a) (tree_in form.now room.old b)) }

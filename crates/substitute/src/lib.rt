@@ -182,7 +182,7 @@ fn sub_atom(form: &[u8], room: &mut [u8], cons: usize, ch: Charges, n: usize, ar
 }
 
 // The head of a list that is no quote: an atom stays, and is not read; a pair is worked as a body.
-#[cycle(sub_body_sub_each_sub_head_sub_list)]
+#[cycle(substituting)]
 fn sub_head(form: &[u8], room: &mut [u8], cons: usize, ch: Charges, f: usize, args: usize) -> Sub
     requires { Ready form.now room.old ch f × Ready form.now room.old ch args × Shows form.now room.old ch cons cons_pattern }
     ensures { SubOk form.now room.old room.new ch (head_cost (tree_in form.now room.old f) (tree_in form.now room.old args)) (head_tree (tree_in form.now room.old f) (tree_in form.now room.old args)) (head_low (tree_in form.now room.old f)) result }
@@ -198,7 +198,7 @@ fn sub_head(form: &[u8], room: &mut [u8], cons: usize, ch: Charges, f: usize, ar
 }
 
 // The list of first, whose work is done, and the operands in rest: an improper tail gives the new arguments.
-#[cycle(sub_body_sub_each_sub_head_sub_list)]
+#[cycle(substituting)]
 fn sub_list(
     form: &[u8],
     room: &mut [u8],
@@ -231,7 +231,7 @@ fn sub_list(
 }
 
 // Each operand of the list.
-#[cycle(sub_body_sub_each_sub_head_sub_list)]
+#[cycle(substituting)]
 fn sub_each(form: &[u8], room: &mut [u8], cons: usize, ch: Charges, list: usize, args: usize) -> Sub
     requires { Ready form.now room.old ch list × Ready form.now room.old ch args × Shows form.now room.old ch cons cons_pattern }
     ensures { SubOk form.now room.old room.new ch (sub_each_cost (tree_in form.now room.old list) (tree_in form.now room.old args)) (sub_each (tree_in form.now room.old list) (tree_in form.now room.old args)) (reads_low_each (tree_in form.now room.old list)) result }
@@ -261,7 +261,7 @@ fn sub_each(form: &[u8], room: &mut [u8], cons: usize, ch: Charges, list: usize,
 
 // `sub_args` by the node of the one pattern that it reads: it runs once for each level of the body, so its frame must be small.
 // A quote is tested first: what is left is then one call for the head and one for the list.
-#[cycle(sub_body_sub_each_sub_head_sub_list)]
+#[cycle(substituting)]
 fn sub_body(form: &[u8], room: &mut [u8], cons: usize, ch: Charges, body: usize, args: usize) -> Sub
     requires { Ready form.now room.old ch body × Ready form.now room.old ch args × Shows form.now room.old ch cons cons_pattern }
     ensures { SubOk form.now room.old room.new ch (sub_cost (tree_in form.now room.old body) (tree_in form.now room.old args)) (sub_args (tree_in form.now room.old body) (tree_in form.now room.old args)) (reads_low (tree_in form.now room.old body)) result }

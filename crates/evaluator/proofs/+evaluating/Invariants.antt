@@ -4,7 +4,7 @@ use Rattle.meaning.specs.Evaluate.{evaluate}
 use Rattle.store.specs.Nodes.{tree_at}
 use Rattle.evaluator.specs.Values.{state, Asks}
 use Rattle.evaluator.proofs.Each as each
-use Rattle.evaluator.proofs.+call_eval_each_eval_node_step.Given as goal
+use Rattle.evaluator.proofs.+evaluating.Given as goal
 
 abbrev pub decreases-call : goal.decreases-call
 decreases-call l = 4 * (4097 - l.m.steps) + 2

@@ -3,7 +3,7 @@ use borrow.Author.Rules.{rules}
 use Rattle.meaning.specs.Constant as meaning
 use Rattle.store.proofs.Ready.{room, ready_left, ready_right}
 use Rattle.seems.proofs.Laws as laws
-use Rattle.seems.proofs.+seems_constant_seems_constant_tail.Goals as goal
+use Rattle.seems.proofs.+seeming.Goals as goal
 
 pub seems_constant-look_node-requires : goal.seems_constant-look_node-requires
 seems_constant-look_node-requires t c = search room

@@ -1,6 +1,6 @@
 -- The cycle: the number of the node at work falls. One law of Answers for each call and each return.
 use Prim.Native.Nat.{◌+◌, ◌*◌}
-use Rattle.substitute.proofs.+sub_body_sub_each_sub_head_sub_list.Given as goal
+use Rattle.substitute.proofs.+substituting.Given as goal
 
 abbrev pub decreases-sub_body : goal.decreases-sub_body
 decreases-sub_body l = 2 * l.body

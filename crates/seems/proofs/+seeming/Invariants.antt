@@ -1,5 +1,5 @@
 -- The cycle: the node's number falls. One law of Laws for each call and each return.
-use Rattle.seems.proofs.+seems_constant_seems_constant_tail.Given as goal
+use Rattle.seems.proofs.+seeming.Given as goal
 
 abbrev pub decreases-seems_constant : goal.decreases-seems_constant
 decreases-seems_constant l = l.n

@@ -2,7 +2,7 @@
 use borrow.Author.Rules.{rules}
 use Rattle.store.proofs.Ready.{room}
 use Rattle.sexp.proofs.Equal as equal
-use Rattle.sexp.proofs.+equal_node_equal_records.Goals as goal
+use Rattle.sexp.proofs.+equality.Goals as goal
 
 pub equal_node-returns-then-a-b : goal.equal_node-returns-then-a-b
 equal_node-returns-then-a-b t c = search equal.equal_same

@@ -14,7 +14,7 @@ use Rattle.driver.proofs.Keeping as keeping
 use Rattle.driver.proofs.Logging as logging
 use Rattle.run_state.proofs.Entries as entries
 use Rattle.run_state.proofs.Noting.{sofar_starts}
-use Rattle.driver.proofs.+children_optimizer_drive_operands_optimizer_settle_turn_var_change_optimizer_cons_eval.Goals as goal
+use Rattle.driver.proofs.+driving.Goals as goal
 
 pub children_optimizer-is_quote_node-requires : goal.children_optimizer-is_quote_node-requires
 children_optimizer-is_quote_node-requires t c = search kept.fine_room

@@ -5,7 +5,7 @@ use Rattle.store.proofs.Ready.{room}
 use Rattle.evaluator.proofs.Outcomes.{asks_now}
 use Rattle.evaluator.proofs.Each as each
 use Rattle.evaluator.proofs.Cycle as cycle
-use Rattle.evaluator.proofs.+call_eval_each_eval_node_step.Goals as goal
+use Rattle.evaluator.proofs.+evaluating.Goals as goal
 
 pub call-accepts-requires : goal.call-accepts-requires
 call-accepts-requires t c = search room

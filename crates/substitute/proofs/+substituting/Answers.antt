@@ -2,7 +2,7 @@
 use borrow.Author.Rules.{rules}
 use Rattle.store.proofs.Ready.{room, room_left, ready_left, ready_right}
 use Rattle.substitute.proofs.Answers as answers
-use Rattle.substitute.proofs.+sub_body_sub_each_sub_head_sub_list.Goals as goal
+use Rattle.substitute.proofs.+substituting.Goals as goal
 
 pub sub_body-look_node-requires : goal.sub_body-look_node-requires
 sub_body-look_node-requires t c = search room

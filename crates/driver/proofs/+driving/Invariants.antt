@@ -12,7 +12,7 @@ use Rattle.driver_parts.proofs.Turning as turning
 use Rattle.run_state.specs.Work.{spent_of}
 use Rattle.run_state.specs.State.{Valid}
 use Rattle.run_state.proofs.Noting.{Sofar}
-use Rattle.driver.proofs.+children_optimizer_drive_operands_optimizer_settle_turn_var_change_optimizer_cons_eval.Given as goal
+use Rattle.driver.proofs.+driving.Given as goal
 
 abbrev pub decreases-children_optimizer : goal.decreases-children_optimizer
 decreases-children_optimizer l = (66 - l.nest) * 70_000 + 65_541

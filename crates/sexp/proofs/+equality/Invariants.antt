@@ -1,6 +1,6 @@
 -- equal_node and equal_records: the first node's number falls. One law of Equal for each call and each return.
 use Prim.Native.Nat.{◌+◌}
-use Rattle.sexp.proofs.+equal_node_equal_records.Given as goal
+use Rattle.sexp.proofs.+equality.Given as goal
 
 abbrev pub decreases-equal_node : goal.decreases-equal_node
 decreases-equal_node l = l.x + l.x + 1
