@@ -3,7 +3,7 @@
 //!
 //! [`Umlazgrin`] owns the working room and an output and hands out owned answers; [`lent`] has the functions on slices that
 //! the caller lends. Give a thread that calls them 2 MiB of stack, which is what Rust gives one by itself: the most that a call was
-//! seen to take is under 1.25 MiB.
+//! seen to take is under 1.6 MiB.
 //!
 //! A form that is read may spell its lengths with spare bytes, as older exporters do; the answers are those of the shortest form. A
 //! form that is written is always the shortest.
