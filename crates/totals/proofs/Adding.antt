@@ -9,8 +9,8 @@ use mir.Val.{bool_byte}
 use lib.ListN.{get_or, set}
 use borrow.Author.Tests.{ltb-true, lt-ltb, le-ltb}
 use Rattle.refusals.specs.declared.Refusal.{Refusal}
-use Rattle.refusals.specs.declared.Refusal.TheVariants.{RoomSmall, FormLong, EndsEarly, BadPrefix, AtomLong, BytesAfter, UnitsOut, Fails, NoOperator, StepsOut, PathLong, PassesOut, TooDeep, OutputShort, NoParse, TextLong, ReportFull, NotATrace, TraceCut, TraceLong}
 use Rattle.refusals.specs.Numbers.{number_of}
+pub use Rattle.refusals.proofs.Only.{number_least}
 use Rattle.meaning.proofs.Tests.{not_false}
 use Rattle.meaning.specs.Run.{mark_number}
 use Rattle.totals.specs.declared.Savings.{Savings}
@@ -96,28 +96,6 @@ module _ (s : Savings) (o : is_open s ≡ true) where
   after_fits n l = sum_fits s.after n (small_at (s.marked ∷ s.before ∷ s.after ∷ s.passes ∷ []) 2 (open_sums s o)) (omega arith)
 
 -- ---- with_refusal
-
-pub number_least : (r : Refusal) → 1 ≤ number_of r
-number_least RoomSmall = omega arith
-number_least FormLong = omega arith
-number_least EndsEarly = omega arith
-number_least BadPrefix = omega arith
-number_least AtomLong = omega arith
-number_least BytesAfter = omega arith
-number_least UnitsOut = omega arith
-number_least Fails = omega arith
-number_least NoOperator = omega arith
-number_least StepsOut = omega arith
-number_least PathLong = omega arith
-number_least PassesOut = omega arith
-number_least TooDeep = omega arith
-number_least OutputShort = omega arith
-number_least NoParse = omega arith
-number_least TextLong = omega arith
-number_least ReportFull = omega arith
-number_least NotATrace = omega arith
-number_least TraceCut = omega arith
-number_least TraceLong = omega arith
 
 pub refusal_least : (r : Refusal) (n : ℕ) → n ≡ number_of r → 1 ≤ n
 refusal_least r n e = rw e (number_least r)
