@@ -6,10 +6,8 @@ use Rattle.refusals.specs.declared.Refusal.TheVariants.{UnitsOut}
 use Rattle.meaning.specs.Tree.{Tree, atom}
 use Rattle.meaning.specs.Limits.{unit_limit, pair_cost, atom_cost}
 use Rattle.store.specs.declared.Charges.{Charges}
-use Rattle.store.specs.declared.Charged.{Charged}
-use Rattle.store.specs.declared.Charged.TheVariants.{Go, Stop}
 use Rattle.store.specs.declared.Made.{Made}
-use Rattle.store.specs.declared.Made.TheVariants.{Node, Refused}
+use Rattle.std.specs.Prelude.{Result, Ok, Err}
 use Rattle.store.specs.Cells.{pick}
 use Rattle.store.specs.Store.{Held, Ready, Paid, free_limit}
 use Rattle.store.specs.Makers.{Stands, Put, spend, lend, charged, Bought, Over, MadeOk, LaidOk}
@@ -17,11 +15,11 @@ use Rattle.store.proofs.Ready.{grown_none, nil_ready}
 
 -- ---- what charge answers
 
-pub charge_goes : (c : Charges) (k : ℕ) → k ≤ unit_limit - c.units → c.units ≤ unit_limit → Go (spend c k) ≡ charged c k
+pub charge_goes : (c : Charges) (k : ℕ) → k ≤ unit_limit - c.units → c.units ≤ unit_limit → Ok (spend c k) ≡ charged c k
 unfolding charged
 charge_goes c k h o = let z : c.units + k ≤ unit_limit = omega arith in simp (le-leb _ _ z)
 
-pub charge_stops : (c : Charges) (k : ℕ) → unit_limit - c.units < k → c.units ≤ unit_limit → Stop UnitsOut ≡ charged c k
+pub charge_stops : (c : Charges) (k : ℕ) → unit_limit - c.units < k → c.units ≤ unit_limit → Err UnitsOut ≡ charged c k
 unfolding charged
 charge_stops c k h o = let z : unit_limit < c.units + k = omega arith in simp (lt-leb _ _ z)
 
@@ -30,20 +28,20 @@ pub record Went (c : Charges) (k : ℕ) (c₁ : Charges) : Type 0 where
   pub is : c₁ ≡ spend c k
   pub fits : c.units + k ≤ unit_limit
 
-module _ (c : Charges) (k : ℕ) (a : Charged) (e : a ≡ charged c k) where
-  pub went : (c₁ : Charges) → a ≡ Go c₁ → Went c k c₁
+module _ (c : Charges) (k : ℕ) (a : Result Charges Refusal) (e : a ≡ charged c k) where
+  pub went : (c₁ : Charges) → a ≡ Ok c₁ → Went c k c₁
   unfolding charged
   went c₁ o = go (leb (c.units + k) unit_limit) refl (sym o ∙ e)
     where
-      go : (b : Bool) → leb (c.units + k) unit_limit ≡ b → Go c₁ ≡ pick b (Go (spend c k)) (Stop UnitsOut) → Went c k c₁
+      go : (b : Bool) → leb (c.units + k) unit_limit ≡ b → Ok c₁ ≡ pick b (Ok (spend c k)) (Err UnitsOut) → Went c k c₁
       go true t z = record { is = cc; fits = leb-true _ _ t }
       go false t z = let y : ◌≡◌ {A = ℕ} 0 1 = cc in absurd (omega arith)
 
-  pub stopped : (r : Refusal) → a ≡ Stop r → Over c k r
+  pub stopped : (r : Refusal) → a ≡ Err r → Over c k r
   unfolding charged
   stopped r o = go (leb (c.units + k) unit_limit) refl (sym o ∙ e)
     where
-      go : (b : Bool) → leb (c.units + k) unit_limit ≡ b → Stop r ≡ pick b (Go (spend c k)) (Stop UnitsOut) → Over c k r
+      go : (b : Bool) → leb (c.units + k) unit_limit ≡ b → Err r ≡ pick b (Ok (spend c k)) (Err UnitsOut) → Over c k r
       go true t z = let y : ◌≡◌ {A = ℕ} 0 1 = cc in absurd (omega arith)
       go false t z = record { refusal = cc; over = leb-false _ _ t }
 
@@ -104,9 +102,9 @@ stands_from {f} {s} {t} {c} {c₁} {d} e h =
 
 -- ---- the charged makers
 
-module _ (f s : List ℕ) (c c₁ : Charges) (k : ℕ) (a : Charged) (o : a ≡ Go c₁) (e : a ≡ charged c k) where
+module _ (f s : List ℕ) (c c₁ : Charges) (k : ℕ) (a : Result Charges Refusal) (o : Unit {0} → a ≡ Ok c₁) (e : a ≡ charged c k) where
   w : Went c k c₁
-  w = went c k a e c₁ o
+  w = went c k a e c₁ (o tt)
 
   pub ready_charged : (m : ℕ) → Ready f s c m → Ready f s c₁ m
   ready_charged m r = rw w.is (ready_spent k r w.fits)
@@ -117,7 +115,7 @@ module _ (f s : List ℕ) (c c₁ : Charges) (k : ℕ) (a : Charged) (o : a ≡ 
   pub paid_charged : Held f s c → (z : ℕ) → 8 * z ≤ 15 * k → Paid c₁ z
   paid_charged h z p = rw w.is (paid_spent k h z p)
 
-  pub bought : (t : List ℕ) (d : Charges) (n : ℕ) (x : Tree) → Put f s t c₁ d x → n ≡ c₁.end → MadeOk f s t c k x (Node n d)
+  pub bought : (t : List ℕ) (d : Charges) (n : ℕ) (x : Tree) → Put f s t c₁ d x → n ≡ c₁.end → MadeOk f s t c k x (Ok (record { node = n; ch = d }))
   unfolding MadeOk
   bought t d n x p en =
       let e₁ : c₁.end ≡ c.end = ap (λ (z : Charges). z.end) w.is in
@@ -126,7 +124,7 @@ module _ (f s : List ℕ) (c c₁ : Charges) (k : ℕ) (a : Charged) (o : a ≡ 
       rw en (record { stands = stands_from e₁ p.stands; units = p.units ∙ eu; free = p.free ∙ ef })
 
 -- what the makers' calls ask
-module _ (f s : List ℕ) (c c₁ : Charges) (a : Charged) (o : a ≡ Go c₁) where
+module _ (f s : List ℕ) (c c₁ : Charges) (a : Result Charges Refusal) (o : Unit {0} → a ≡ Ok c₁) where
   pub pair_paid : (m : ℕ) → a ≡ charged c pair_cost → Ready f s c m → Paid c₁ 15
   pair_paid m e r = paid_charged f s c c₁ pair_cost a o e r.held 15 (omega arith)
 
@@ -136,12 +134,12 @@ module _ (f s : List ℕ) (c c₁ : Charges) (a : Charged) (o : a ≡ Go c₁) w
   pub form_paid : (z : ℕ) → a ≡ charged c (4 + z) → Held f s c → Paid c₁ 5
   form_paid z e h = paid_charged f s c c₁ (4 + z) a o e h 5 (omega arith)
 
-pub over : (f s t : List ℕ) (c : Charges) (k : ℕ) (x : Tree) (a : Charged) (r : Refusal) → a ≡ Stop r → a ≡ charged c k → MadeOk f s t c k x (Refused r)
+pub over : (f s t : List ℕ) (c : Charges) (k : ℕ) (x : Tree) (a : Result Charges Refusal) (r : Refusal) → a ≡ Err r → a ≡ charged c k → MadeOk f s t c k x (Err r)
 unfolding MadeOk
 over f s t c k x a r o e = stopped c k a e r o
 
 -- an atom without bytes is nil, and free
-pub nil_made : (f s b : List ℕ) (c : Charges) → Held f s c → length b ≡ 0 → MadeOk f s s c (atom_cost b) (atom b) (Node 0 c)
+pub nil_made : (f s b : List ℕ) (c : Charges) → Held f s c → length b ≡ 0 → MadeOk f s s c (atom_cost b) (atom b) (Ok (record { node = 0; ch = c }))
 unfolding MadeOk atom_cost
 nil_made f s [] c h e = record {
   stands = record { grown = grown_none f s c h; ready = nil_ready f s c h; tree = h.nil_at };
@@ -155,14 +153,14 @@ unfolding atom_cost
 atom_costs [] h = absurd (h refl)
 atom_costs (x ∷ xs) h = refl
 
-module _ (f s t : List ℕ) (c : Charges) (b : List ℕ) (k : ℕ) (a : Charged) (e : a ≡ charged c k) (ek : k ≡ 4 + length b) (ne : length b ≡ 0 → ⊥) where
+module _ (f s t : List ℕ) (c : Charges) (b : List ℕ) (k : ℕ) (a : Result Charges Refusal) (e : a ≡ charged c k) (ek : k ≡ 4 + length b) (ne : length b ≡ 0 → ⊥) where
   same_cost : k ≡ atom_cost b
   same_cost = ek ∙ sym (atom_costs b ne)
 
-  pub atom_bought : (c₁ d : Charges) (n : ℕ) → Put f s t c₁ d (atom b) → a ≡ Go c₁ → n ≡ c₁.end → MadeOk f s t c (atom_cost b) (atom b) (Node n d)
+  pub atom_bought : (c₁ d : Charges) (n : ℕ) → Put f s t c₁ d (atom b) → (Unit {0} → a ≡ Ok c₁) → n ≡ c₁.end → MadeOk f s t c (atom_cost b) (atom b) (Ok (record { node = n; ch = d }))
   atom_bought c₁ d n p o en = rw same_cost at (bought f s c c₁ k a o e t d n (atom b) p en)
 
-  pub atom_over : (r : Refusal) → a ≡ Stop r → MadeOk f s t c (atom_cost b) (atom b) (Refused r)
+  pub atom_over : (r : Refusal) → a ≡ Err r → MadeOk f s t c (atom_cost b) (atom b) (Err r)
   atom_over r o = rw same_cost at (over f s t c k (atom b) a r o e)
 
 -- an atom of the form
@@ -170,14 +168,14 @@ module _ (f : List ℕ) (at z : ℕ) (fits : at + z ≤ length f) where
   form_length : length (take z (drop at f)) ≡ z
   form_length = length-take-le z (drop at f) (simp length-drop (omega arith))
 
-  pub form_nil : (s : List ℕ) (c : Charges) → Held f s c → z ≡ 0 → MadeOk f s s c (atom_cost (take z (drop at f))) (atom (take z (drop at f))) (Node 0 c)
+  pub form_nil : (s : List ℕ) (c : Charges) → Held f s c → z ≡ 0 → MadeOk f s s c (atom_cost (take z (drop at f))) (atom (take z (drop at f))) (Ok (record { node = 0; ch = c }))
   form_nil s c h e = nil_made f s (take z (drop at f)) c h (form_length ∙ e)
 
-  module _ (s t : List ℕ) (c : Charges) (a : Charged) (e : a ≡ charged c (4 + z)) (ne : z ≡ 0 → ⊥) where
-    pub form_bought : (c₁ d : Charges) (n : ℕ) → Put f s t c₁ d (atom (take z (drop at f))) → a ≡ Go c₁ → n ≡ c₁.end → MadeOk f s t c (atom_cost (take z (drop at f))) (atom (take z (drop at f))) (Node n d)
+  module _ (s t : List ℕ) (c : Charges) (a : Result Charges Refusal) (e : a ≡ charged c (4 + z)) (ne : z ≡ 0 → ⊥) where
+    pub form_bought : (c₁ d : Charges) (n : ℕ) → Put f s t c₁ d (atom (take z (drop at f))) → (Unit {0} → a ≡ Ok c₁) → n ≡ c₁.end → MadeOk f s t c (atom_cost (take z (drop at f))) (atom (take z (drop at f))) (Ok (record { node = n; ch = d }))
     form_bought = atom_bought f s t c (take z (drop at f)) (4 + z) a e (rw form_length) (λ y. ne (sym form_length ∙ y))
 
-    pub form_over : (r : Refusal) → a ≡ Stop r → MadeOk f s t c (atom_cost (take z (drop at f))) (atom (take z (drop at f))) (Refused r)
+    pub form_over : (r : Refusal) → a ≡ Err r → MadeOk f s t c (atom_cost (take z (drop at f))) (atom (take z (drop at f))) (Err r)
     form_over = atom_over f s t c (take z (drop at f)) (4 + z) a e (rw form_length) (λ y. ne (sym form_length ∙ y))
 
 -- ---- the free makers
@@ -204,12 +202,12 @@ laid f s t c c₁ d k n x p e en =
 
 -- ---- what callers of the charged makers go by
 
-module _ (f s t : List ℕ) (c : Charges) (k : ℕ) (x : Tree) (a : Made) (h : MadeOk f s t c k x a) where
-  pub made_node : (q : ℕ) (d : Charges) → a ≡ Node q d → Bought f s t c d k q x
+module _ (f s t : List ℕ) (c : Charges) (k : ℕ) (x : Tree) (a : Result Made Refusal) (h : MadeOk f s t c k x a) where
+  pub made_node : (q : ℕ) (d : Charges) → a ≡ Ok (record { node = q; ch = d }) → Bought f s t c d k q x
   unfolding MadeOk
   made_node q d e = rw e at h
 
-  pub made_over : (r : Refusal) → a ≡ Refused r → Over c k r
+  pub made_over : (r : Refusal) → a ≡ Err r → Over c k r
   unfolding MadeOk
   made_over r e = rw e at h
 

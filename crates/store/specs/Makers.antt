@@ -1,15 +1,11 @@
 -- What a change of the store gives and keeps.
-use Rattle.std.specs.Prelude.{◌≡◌, ℕ, ◌+◌, ◌<◌, ◌≤◌, Bool, List, length, nat_le}
+use Rattle.std.specs.Prelude.{◌≡◌, ℕ, ◌+◌, ◌<◌, ◌≤◌, Bool, List, length, nat_le, Result, Ok, Err}
 use Rattle.refusals.specs.declared.Refusal.{Refusal}
 use Rattle.refusals.specs.declared.Refusal.TheVariants.{UnitsOut}
 use Rattle.meaning.specs.Tree.{Tree}
 use Rattle.meaning.specs.Limits.{unit_limit}
 use Rattle.store.specs.declared.Charges.{Charges}
-use Rattle.store.specs.declared.Charged.{Charged}
-use Rattle.store.specs.declared.Charged.TheVariants.{Go, Stop}
 use Rattle.store.specs.declared.Made.{Made}
-use Rattle.store.specs.declared.Made.TheVariants.{Node, Refused}
-use Rattle.store.specs.declared.Laid.{Laid}
 use Rattle.store.specs.declared.Cell.TheVariants.{Atom}
 use Rattle.store.specs.Cells.{pick, cell_at, Starts}
 use Rattle.store.specs.Nodes.{tree_at}
@@ -35,8 +31,8 @@ abbrev pub spend : Charges → ℕ → Charges
 spend c k = record { units = c.units + k; free = c.free; end = c.end; top = c.top }
 
 -- refusal 7, at the store
-unfoldable pub charged : Charges → ℕ → Charged
-charged c cost = pick (nat_le (c.units + cost) unit_limit) (Go (spend c cost)) (Stop UnitsOut)
+unfoldable pub charged : Charges → ℕ → Result Charges Refusal
+charged c cost = pick (nat_le (c.units + cost) unit_limit) (Ok (spend c cost)) (Err UnitsOut)
 
 -- q stands for t, at a cost in units
 pub record Bought (f s s' : List ℕ) (c c' : Charges) (cost q : ℕ) (t : Tree) : Type 0 where
@@ -50,9 +46,9 @@ pub record Over (c : Charges) (cost : ℕ) (r : Refusal) : Type 0 where
   pub over : unit_limit < c.units + cost
 
 -- what a maker answers: a node that stands for t, or that its cost goes over the units
-unfoldable pub MadeOk : List ℕ → List ℕ → List ℕ → Charges → ℕ → Tree → Made → Type 0
-MadeOk f s s' c cost t (Node q c') = Bought f s s' c c' cost q t
-MadeOk f s s' c cost t (Refused r) = Over c cost r
+unfoldable pub MadeOk : List ℕ → List ℕ → List ℕ → Charges → ℕ → Tree → Result Made Refusal → Type 0
+MadeOk f s s' c cost t (Ok a) = Bought f s s' c a.ch cost a.node t
+MadeOk f s s' c cost t (Err r) = Over c cost r
 
 -- ---- without units
 
@@ -66,7 +62,7 @@ abbrev pub lend : Charges → ℕ → Charges
 lend c k = record { units = c.units; free = c.free + k; end = c.end; top = c.top }
 
 -- a tree was laid in k bytes free of units
-pub record LaidOk (f s s' : List ℕ) (c : Charges) (k : ℕ) (t : Tree) (a : Laid) : Type 0 where
+pub record LaidOk (f s s' : List ℕ) (c : Charges) (k : ℕ) (t : Tree) (a : Made) : Type 0 where
   pub stands : Stands f s s' c a.ch a.node t
   pub units : a.ch.units ≡ c.units
   pub free : a.ch.free ≡ c.free + k

@@ -32,22 +32,9 @@ pub struct Charges {
     pub top: usize,
 }
 
+// What a maker made: a node, and the charges after it.
 #[derive(Clone, Copy)]
-pub enum Charged {
-    Go(Charges),
-    Stop(Refusal),
-}
-
-// What a maker answers: a node and the charges after it, or a refusal.
-#[derive(Clone, Copy)]
-pub enum Made {
-    Node(usize, Charges),
-    Refused(Refusal),
-}
-
-// What a free maker answers.
-#[derive(Clone, Copy)]
-pub struct Laid {
+pub struct Made {
     pub node: usize,
     pub ch: Charges,
 }
@@ -209,20 +196,17 @@ pub fn same_node(room: &[u8], n: usize) -> usize
 const UNITS: usize = 32768;
 
 // Charges for work, whether or not it makes a record.
-pub fn charge(ch: Charges, cost: usize) -> Charged
+pub fn charge(ch: Charges, cost: usize) -> Result<Charges, Refusal>
     requires { ch.units ≤ unit_limit }
     ensures { result ≡ charged ch cost }
 {
     if UNITS - ch.units < cost {
-        Charged::Stop(Refusal::UnitsOut)
-    } else {
-        Charged::Go(Charges {
-            units: ch.units + cost,
-            free: ch.free,
-            end: ch.end,
-            top: ch.top,
-        })
+        return Err(Refusal::UnitsOut);
     }
+    Ok(Charges {
+        units: ch.units + cost,
+        ..ch
+    })
 }
 
 // ---- records at the end, already paid for: the charges leave room for them, so none is asked for
@@ -311,54 +295,59 @@ fn append_atom<'a>(form: &'a [u8], room: &mut [u8], ch: Charges, b: &'a [u8]) ->
 // ---- makers that are charged
 
 // The pair of l and r, for 8 units.
-pub fn pair_node(form: &[u8], room: &mut [u8], ch: Charges, l: usize, r: usize) -> Made
+pub fn pair_node(
+    form: &[u8],
+    room: &mut [u8],
+    ch: Charges,
+    l: usize,
+    r: usize,
+) -> Result<Made, Refusal>
     requires { Ready form.now room.old ch l × Ready form.now room.old ch r }
     ensures { MadeOk form.now room.old room.new ch pair_cost (pair (tree_in form.now room.old l) (tree_in form.now room.old r)) result }
 {
-    match charge(ch, 8) {
-        Charged::Go(c) => {
-            let n = c.end;
-            let d = append_pair(form, room, c, l, r);
-            Made::Node(n, d)
-        }
-        Charged::Stop(e) => Made::Refused(e),
-    }
+    let c = charge(ch, 8)?;
+    let n = c.end;
+    let d = append_pair(form, room, c, l, r);
+    Ok(Made { node: n, ch: d })
 }
 
 // An atom of these bytes, for 4 units and one a byte; the empty atom is node 0, and free.
-pub fn atom_node<'a>(form: &'a [u8], room: &mut [u8], ch: Charges, b: &'a [u8]) -> Made
+pub fn atom_node<'a>(
+    form: &'a [u8],
+    room: &mut [u8],
+    ch: Charges,
+    b: &'a [u8],
+) -> Result<Made, Refusal>
     requires { Held form.now room.old ch × (length b.now ≤ atom_most) }
     ensures { MadeOk form.now room.old room.new ch (atom_cost b.now) (atom b.now) result }
 {
     if b.len() == 0 {
-        return Made::Node(0, ch);
+        return Ok(Made { node: 0, ch });
     }
-    match charge(ch, 4 + b.len()) {
-        Charged::Go(c) => {
-            let n = c.end;
-            let d = append_atom(form, room, c, b);
-            Made::Node(n, d)
-        }
-        Charged::Stop(e) => Made::Refused(e),
-    }
+    let c = charge(ch, 4 + b.len())?;
+    let n = c.end;
+    let d = append_atom(form, room, c, b);
+    Ok(Made { node: n, ch: d })
 }
 
 // An atom of the form, of len bytes from at on; charged like any other.
-pub fn form_atom_node(form: &[u8], room: &mut [u8], ch: Charges, at: usize, len: usize) -> Made
+pub fn form_atom_node(
+    form: &[u8],
+    room: &mut [u8],
+    ch: Charges,
+    at: usize,
+    len: usize,
+) -> Result<Made, Refusal>
     requires { Held form.now room.old ch × (at < 65536) × (at + len ≤ length form.now) × (len ≤ atom_most) }
     ensures { MadeOk form.now room.old room.new ch (atom_cost (take len (drop at form.now))) (atom (take len (drop at form.now))) result }
 {
     if len == 0 {
-        return Made::Node(0, ch);
+        return Ok(Made { node: 0, ch });
     }
-    match charge(ch, 4 + len) {
-        Charged::Go(c) => {
-            let n = c.end;
-            let d = append_form_atom(form, room, c, at, len);
-            Made::Node(n, d)
-        }
-        Charged::Stop(e) => Made::Refused(e),
-    }
+    let c = charge(ch, 4 + len)?;
+    let n = c.end;
+    let d = append_form_atom(form, room, c, at, len);
+    Ok(Made { node: n, ch: d })
 }
 
 // ---- makers that are free of units, for patterns
@@ -376,24 +365,24 @@ fn give_free(ch: Charges, k: usize) -> Charges
     }
 }
 
-pub fn lay_pair(form: &[u8], room: &mut [u8], ch: Charges, l: usize, r: usize) -> Laid
+pub fn lay_pair(form: &[u8], room: &mut [u8], ch: Charges, l: usize, r: usize) -> Made
     requires { Ready form.now room.old ch l × Ready form.now room.old ch r × (ch.free + 15 ≤ free_limit) }
     ensures { LaidOk form.now room.old room.new ch 15 (pair (tree_in form.now room.old l) (tree_in form.now room.old r)) result }
 {
     let c = give_free(ch, 15);
     let n = c.end;
     let d = append_pair(form, room, c, l, r);
-    Laid { node: n, ch: d }
+    Made { node: n, ch: d }
 }
 
-pub fn lay_atom<'a>(form: &'a [u8], room: &mut [u8], ch: Charges, b: &'a [u8]) -> Laid
+pub fn lay_atom<'a>(form: &'a [u8], room: &mut [u8], ch: Charges, b: &'a [u8]) -> Made
     requires { Held form.now room.old ch × (length b.now ≤ atom_most) × (ch.free + (5 + length b.now) ≤ free_limit) }
     ensures { LaidOk form.now room.old room.new ch (5 + length b.now) (atom b.now) result }
 {
     let c = give_free(ch, 5 + b.len());
     let n = c.end;
     let d = append_atom(form, room, c, b);
-    Laid { node: n, ch: d }
+    Made { node: n, ch: d }
 }
 
 // A store with nil at 0, and nothing else, whatever the room held.

@@ -9,8 +9,8 @@ returns-then-b-eq0 c = search charging.nil_made
 pub append_atom-d-requires : goal.append_atom-d-requires
 append_atom-d-requires c = (search charging.held_charged, search charging.atom_paid, search rules)
 
-pub returns-in-Go : goal.returns-in-Go
-returns-in-Go c = search charging.atom_bought
+pub returns : goal.returns
+returns c = search charging.atom_bought
 
-pub returns-in-Stop : goal.returns-in-Stop
-returns-in-Stop c = search charging.atom_over
+pub returns-in_err-c : goal.returns-in_err-c
+returns-in_err-c c = search (rules, charging.atom_over)

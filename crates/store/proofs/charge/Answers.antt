@@ -5,5 +5,5 @@ use Rattle.store.proofs.charge.Goals as goal
 pub returns-then-ch-cost : goal.returns-then-ch-cost
 returns-then-ch-cost c = search charging.charge_stops
 
-pub returns-else-ch-cost : goal.returns-else-ch-cost
-returns-else-ch-cost c = search charging.charge_goes
+pub returns : goal.returns
+returns c = search charging.charge_goes

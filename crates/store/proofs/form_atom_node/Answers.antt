@@ -9,8 +9,8 @@ returns-then-len-eq0 c = search charging.form_nil
 pub append_form_atom-d-requires : goal.append_form_atom-d-requires
 append_form_atom-d-requires c = (search charging.held_charged, search charging.form_paid, search rules, search rules)
 
-pub returns-in-Go : goal.returns-in-Go
-returns-in-Go c = search charging.form_bought
+pub returns : goal.returns
+returns c = search charging.form_bought
 
-pub returns-in-Stop : goal.returns-in-Stop
-returns-in-Stop c = search charging.form_over
+pub returns-in_err-c : goal.returns-in_err-c
+returns-in_err-c c = search (rules, charging.form_over)
