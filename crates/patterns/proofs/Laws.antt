@@ -9,7 +9,7 @@ use Rattle.meaning.specs.Match.{atom_match}
 use Rattle.meaning.specs.Substitute.{first_name, rest_name, any_sexp, cons_pattern}
 use Rattle.meaning.specs.Rules.{cons_optimizer_pattern, sexp_name, args_name, apply_pattern, atom_name, atom_pattern, quote_pattern_1, apply_null_pattern_1}
 use Rattle.store.specs.declared.Charges.{Charges}
-use Rattle.store.specs.declared.Laid.{Laid}
+use Rattle.store.specs.declared.Made.{Made}
 use Rattle.store.specs.Nodes.{tree_at}
 use Rattle.store.specs.Store.{Ready}
 use Rattle.store.specs.Makers.{Grown, LaidOk}
@@ -40,7 +40,7 @@ module _ {f s s' : List ℕ} {c c' : Charges} (g : Grown f s s' c c') where
 
 -- ---- one tree laid after another
 
-module _ {f s s₁ : List ℕ} {c : Charges} {k : ℕ} {t : Tree} {o : Laid} (h : LaidOk f s s₁ c k t o) where
+module _ {f s s₁ : List ℕ} {c : Charges} {k : ℕ} {t : Tree} {o : Made} (h : LaidOk f s s₁ c k t o) where
   pub laid_new : Shows f s₁ o.ch o.node t
   laid_new = record { ready = h.stands.ready; tree = h.stands.tree }
 
@@ -51,7 +51,7 @@ module _ {f s s₁ : List ℕ} {c : Charges} {k : ℕ} {t : Tree} {o : Laid} (h 
   laid_long = h.stands.grown.long
 
   -- the second stands for u, whatever it was said to be made of
-  pub laid_then : {s₂ : List ℕ} {k' : ℕ} {t' : Tree} {a : Laid} → LaidOk f s₁ s₂ o.ch k' t' a → (j : ℕ) (u : Tree) → k + k' ≡ j → t' ≡ u → LaidOk f s s₂ c j u a
+  pub laid_then : {s₂ : List ℕ} {k' : ℕ} {t' : Tree} {a : Made} → LaidOk f s₁ s₂ o.ch k' t' a → (j : ℕ) (u : Tree) → k + k' ≡ j → t' ≡ u → LaidOk f s s₂ c j u a
   laid_then {k'} {a} g j u n e =
       let x : o.ch.free ≡ c.free + k = h.free in
       let y : a.ch.free ≡ o.ch.free + k' = g.free in
@@ -62,22 +62,22 @@ module _ {f s s₁ : List ℕ} {c : Charges} {k : ℕ} {t : Tree} {o : Laid} (h 
       }
 
 -- (b . x)
-pub headed : (f s s₁ s₂ : List ℕ) (c : Charges) (b x : ℕ) (o a : Laid) → LaidOk f s₁ s₂ o.ch 15 (pair (tree_at f s₁ o.node) (tree_at f s₁ x)) a
+pub headed : (f s s₁ s₂ : List ℕ) (c : Charges) (b x : ℕ) (o a : Made) → LaidOk f s₁ s₂ o.ch 15 (pair (tree_at f s₁ o.node) (tree_at f s₁ x)) a
     → LaidOk f s s₁ c 6 (byte b) o → Ready f s c x → LaidOk f s s₂ c 21 (pair (byte b) (tree_at f s x)) a
 headed f s s₁ s₂ c b x o a g h r = laid_then h g 21 _ refl (ap₂ pair h.stands.tree (grown_tree h.stands.grown r))
 
 -- (x . name)
-pub named : (f s s₁ s₂ n : List ℕ) (c : Charges) (x : ℕ) (o a : Laid) → LaidOk f s₁ s₂ o.ch 21 (pair (byte x) (tree_at f s₁ o.node)) a
+pub named : (f s s₁ s₂ n : List ℕ) (c : Charges) (x : ℕ) (o a : Made) → LaidOk f s₁ s₂ o.ch 21 (pair (byte x) (tree_at f s₁ o.node)) a
     → LaidOk f s s₁ c (5 + length n) (atom n) o → LaidOk f s s₂ c (26 + length n) (pair (byte x) (atom n)) a
 named f s s₁ s₂ n c x o a g h = laid_then h g (26 + length n) _ (omega arith) (ap (pair (byte x)) h.stands.tree)
 
 -- (b x)
-pub called : (f s s₁ s₂ : List ℕ) (c : Charges) (b x : ℕ) (o a : Laid) → LaidOk f s₁ s₂ o.ch 21 (pair (byte b) (tree_at f s₁ o.node)) a
+pub called : (f s s₁ s₂ : List ℕ) (c : Charges) (b x : ℕ) (o a : Made) → LaidOk f s₁ s₂ o.ch 21 (pair (byte b) (tree_at f s₁ o.node)) a
     → LaidOk f s s₁ c 15 (pair (tree_at f s x) (tree_at f s 0)) o → Ready f s c x → LaidOk f s s₂ c 36 (pair (byte b) (pair (tree_at f s x) nil)) a
 called f s s₁ s₂ c b x o a g h r = laid_then h g 36 _ refl (ap (pair (byte b)) (h.stands.tree ∙ ap (pair (tree_at f s x)) r.held.nil_at))
 
 -- (b x y)
-pub called_2 : {f s s₁ s₂ s₃ : List ℕ} {c : Charges} {b x : ℕ} {o p a : Laid} (y : ℕ) → LaidOk f s₂ s₃ p.ch 21 (pair (byte b) (tree_at f s₂ p.node)) a
+pub called_2 : {f s s₁ s₂ s₃ : List ℕ} {c : Charges} {b x : ℕ} {o p a : Made} (y : ℕ) → LaidOk f s₂ s₃ p.ch 21 (pair (byte b) (tree_at f s₂ p.node)) a
     → LaidOk f s₁ s₂ o.ch 15 (pair (tree_at f s₁ x) (tree_at f s₁ o.node)) p → LaidOk f s s₁ c 15 (pair (tree_at f s y) (tree_at f s 0)) o → Ready f s c x
     → LaidOk f s s₃ c 51 (pair (byte b) (pair (tree_at f s x) (pair (tree_at f s y) nil))) a
 called_2 {f} {s} {s₁} {s₂} {c} {b} {x} {o} {p} y g h₂ h₁ r =
@@ -87,7 +87,7 @@ called_2 {f} {s} {s₁} {s₂} {c} {b} {x} {o} {p} y g h₂ h₁ r =
 
 -- ---- the patterns
 
-module _ {f s s₁ s₂ s₃ : List ℕ} {c : Charges} {a b o : Laid} where
+module _ {f s s₁ s₂ s₃ : List ℕ} {c : Charges} {a b o : Made} where
   -- (c (: . first) (: . rest))
   pub cons_laid : LaidOk f s₂ s₃ b.ch 51 (pair (byte 4) (pair (tree_at f s₂ a.node) (pair (tree_at f s₂ b.node) nil))) o
       → LaidOk f s₁ s₂ a.ch 30 (any_sexp rest_name) b → LaidOk f s s₁ c 31 (any_sexp first_name) a → LaidOk f s s₃ c 112 cons_pattern o
@@ -105,7 +105,7 @@ module _ {f s s₁ s₂ s₃ : List ℕ} {c : Charges} {a b o : Laid} where
       laid_then u g 66 _ refl (ap (pair (byte 2)) u.stands.tree)
 
 -- (a (q . (: . sexp)) (: . args))
-pub apply_laid : {f s s₁ s₂ s₃ s₄ : List ℕ} {c : Charges} {x q a o : Laid} → LaidOk f s₃ s₄ a.ch 51 (pair (byte 2) (pair (tree_at f s₃ q.node) (pair (tree_at f s₃ a.node) nil))) o → LaidOk f s₂ s₃ q.ch 30 (any_sexp args_name) a
+pub apply_laid : {f s s₁ s₂ s₃ s₄ : List ℕ} {c : Charges} {x q a o : Made} → LaidOk f s₃ s₄ a.ch 51 (pair (byte 2) (pair (tree_at f s₃ q.node) (pair (tree_at f s₃ a.node) nil))) o → LaidOk f s₂ s₃ q.ch 30 (any_sexp args_name) a
     → LaidOk f s₁ s₂ x.ch 21 (pair (byte 1) (tree_at f s₁ x.node)) q → LaidOk f s s₁ c 30 (any_sexp sexp_name) x → LaidOk f s s₄ c 132 apply_pattern o
 unfolding apply_pattern enlist
 apply_laid {f} {s} {s₁} {s₂} {s₃} {s₄} {c} {x} {q} {a} g h₃ h₂ h₁ =
@@ -114,7 +114,7 @@ apply_laid {f} {s} {s₁} {s₂} {s₃} {s₄} {c} {x} {q} {a} g h₃ h₂ h₁ 
     laid_then v g 132 _ refl (ap₂ (λ y z. pair (byte 2) (pair y (pair z nil))) (shows_grown h₃.stands.grown (laid_new u)).tree h₃.stands.tree)
 
 -- (f x) and (r x)
-pub both_laid : (f s s₁ s₂ : List ℕ) (c : Charges) (x : ℕ) (o p : Laid) → LaidOk f s₁ s₂ o.ch 36 (pair (byte 6) (pair (tree_at f s₁ x) nil)) p
+pub both_laid : (f s s₁ s₂ : List ℕ) (c : Charges) (x : ℕ) (o p : Made) → LaidOk f s₁ s₂ o.ch 36 (pair (byte 6) (pair (tree_at f s₁ x) nil)) p
     → LaidOk f s s₁ c 36 (pair (byte 5) (pair (tree_at f s x) nil)) o → Ready f s c x
     → BothLaid f s s₂ c 72 (tree_at f s x) (record { inner = x; first = o.node; rest = p.node; ch = p.ch })
 both_laid f s s₁ s₂ c x o p g h r =
@@ -130,7 +130,7 @@ both_laid f s s₁ s₂ c x o p g h r =
     }
 
 -- the two of a pattern that was laid before them
-pub both_then : {f s s₁ s₂ : List ℕ} {c : Charges} {k k' : ℕ} {t t' : Tree} {o : Laid} {a : Both} → LaidOk f s s₁ c k t o → BothLaid f s₁ s₂ o.ch k' t' a → (j : ℕ) → k + k' ≡ j → t' ≡ t
+pub both_then : {f s s₁ s₂ : List ℕ} {c : Charges} {k k' : ℕ} {t t' : Tree} {o : Made} {a : Both} → LaidOk f s s₁ c k t o → BothLaid f s₁ s₂ o.ch k' t' a → (j : ℕ) → k + k' ≡ j → t' ≡ t
     → BothLaid f s s₂ c j t a
 both_then {c} {k} {k'} {o} {a} h g j n e =
     let x : o.ch.free ≡ c.free + k = h.free in
@@ -144,14 +144,14 @@ both_then {c} {k} {k'} {o} {a} h g j n e =
       free = omega arith;
     })
 
-module _ (f s s₁ s₂ : List ℕ) (c : Charges) (o : Laid) (a : Both) (g : BothLaid f s₁ s₂ o.ch 72 (tree_at f s₁ o.node) a) where
+module _ (f s s₁ s₂ : List ℕ) (c : Charges) (o : Made) (a : Both) (g : BothLaid f s₁ s₂ o.ch 72 (tree_at f s₁ o.node) a) where
   pub cons_both : LaidOk f s s₁ c 112 cons_pattern o → BothLaid f s s₂ c 184 cons_pattern a
   cons_both h = both_then h g 184 refl h.stands.tree
 
   pub atom_both : LaidOk f s s₁ c 30 (pair (byte atom_match) (atom atom_name)) o → BothLaid f s s₂ c 102 (pair (byte atom_match) (atom atom_name)) a
   atom_both h = both_then h g 102 refl h.stands.tree
 
-pub others_laid : {f s s₁ s₂ s₃ : List ℕ} {c : Charges} {a q n : Laid} → LaidOk f s₂ s₃ q.ch 66 apply_null_pattern_1 n → LaidOk f s₁ s₂ a.ch 21 (pair (byte 1) (tree_at f s₁ 0)) q
+pub others_laid : {f s s₁ s₂ s₃ : List ℕ} {c : Charges} {a q n : Made} → LaidOk f s₂ s₃ q.ch 66 apply_null_pattern_1 n → LaidOk f s₁ s₂ a.ch 21 (pair (byte 1) (tree_at f s₁ 0)) q
     → LaidOk f s s₁ c 132 apply_pattern a → OthersLaid f s s₃ c (record { apply = a.node; quote_nil = q.node; apply_nil = n.node; ch = n.ch })
 unfolding quote_pattern_1
 others_laid {f} {s} {s₁} {s₂} {s₃} {c} {a} {q} {n} h₃ h₂ h₁ =

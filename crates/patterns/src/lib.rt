@@ -11,7 +11,7 @@ ghost use Rattle.store.specs.Store.{Held, Ready, free_limit};
 ghost use Rattle.store.specs.Makers.{LaidOk};
 ghost use Rattle.patterns.specs.Patterns.{BothLaid, OthersLaid, PatternsLaid, patterns_free};
 
-use store::{Charges, Laid};
+use store::{Charges, Made};
 
 // The nodes of the patterns, each named by the form that it is for.
 #[derive(Clone, Copy)]
@@ -52,7 +52,7 @@ pub struct Others {
 }
 
 // The atom of one byte.
-fn lay_byte(form: &[u8], room: &mut [u8], ch: Charges, b: u8) -> Laid
+fn lay_byte(form: &[u8], room: &mut [u8], ch: Charges, b: u8) -> Made
     requires { Held form.now room.old ch × (ch.free + 6 ≤ free_limit) }
     ensures { LaidOk form.now room.old room.new ch 6 (byte b) result }
 {
@@ -61,83 +61,71 @@ fn lay_byte(form: &[u8], room: &mut [u8], ch: Charges, b: u8) -> Laid
 }
 
 // (b . x)
-fn lay_headed(form: &[u8], room: &mut [u8], ch: Charges, b: u8, x: usize) -> Laid
+fn lay_headed(form: &[u8], room: &mut [u8], ch: Charges, b: u8, x: usize) -> Made
     requires { Ready form.now room.old ch x × (ch.free + 21 ≤ free_limit) }
     ensures { LaidOk form.now room.old room.new ch 21 (pair (byte b) (tree_in form.now room.old x)) result }
 {
     let o = lay_byte(form, room, ch, b);
-    let c = o.ch;
-    store::lay_pair(form, room, c, o.node, x)
+    store::lay_pair(form, room, o.ch, o.node, x)
 }
 
 // (x . name), where x is the byte of `$` or `:`
-fn lay_name<'a>(form: &'a [u8], room: &mut [u8], ch: Charges, x: u8, name: &'a [u8]) -> Laid
+fn lay_name<'a>(form: &'a [u8], room: &mut [u8], ch: Charges, x: u8, name: &'a [u8]) -> Made
     requires { Held form.now room.old ch × (length name.now ≤ 5) × (ch.free + (26 + length name.now) ≤ free_limit) }
     ensures { LaidOk form.now room.old room.new ch (26 + length name.now) (pair (byte x) (atom name.now)) result }
 {
     let a = store::lay_atom(form, room, ch, name);
-    let c = a.ch;
-    lay_headed(form, room, c, x, a.node)
+    lay_headed(form, room, a.ch, x, a.node)
 }
 
 // (b x)
-fn lay_call(form: &[u8], room: &mut [u8], ch: Charges, b: u8, x: usize) -> Laid
+fn lay_call(form: &[u8], room: &mut [u8], ch: Charges, b: u8, x: usize) -> Made
     requires { Ready form.now room.old ch x × (ch.free + 36 ≤ free_limit) }
     ensures { LaidOk form.now room.old room.new ch 36 (pair (byte b) (pair (tree_in form.now room.old x) nil)) result }
 {
     let t = store::lay_pair(form, room, ch, x, 0);
-    let c = t.ch;
-    lay_headed(form, room, c, b, t.node)
+    lay_headed(form, room, t.ch, b, t.node)
 }
 
 // (b x y)
-fn lay_call_2(form: &[u8], room: &mut [u8], ch: Charges, b: u8, x: usize, y: usize) -> Laid
+fn lay_call_2(form: &[u8], room: &mut [u8], ch: Charges, b: u8, x: usize, y: usize) -> Made
     requires { Ready form.now room.old ch x × Ready form.now room.old ch y × (ch.free + 51 ≤ free_limit) }
     ensures { LaidOk form.now room.old room.new ch 51 (pair (byte b) (pair (tree_in form.now room.old x) (pair (tree_in form.now room.old y) nil))) result }
 {
     let t = store::lay_pair(form, room, ch, y, 0);
-    let c = t.ch;
-    let u = store::lay_pair(form, room, c, x, t.node);
-    let d = u.ch;
-    lay_headed(form, room, d, b, u.node)
+    let u = store::lay_pair(form, room, t.ch, x, t.node);
+    lay_headed(form, room, u.ch, b, u.node)
 }
 
 // (c (: . first) (: . rest))
-fn lay_cons(form: &[u8], room: &mut [u8], ch: Charges) -> Laid
+fn lay_cons(form: &[u8], room: &mut [u8], ch: Charges) -> Made
     requires { Held form.now room.old ch × (ch.free + 112 ≤ free_limit) }
     ensures { LaidOk form.now room.old room.new ch 112 cons_pattern result }
 {
     let a = lay_name(form, room, ch, b':', b"first");
-    let c = a.ch;
-    let b = lay_name(form, room, c, b':', b"rest");
-    let d = b.ch;
-    lay_call_2(form, room, d, 4, a.node, b.node)
+    let b = lay_name(form, room, a.ch, b':', b"rest");
+    lay_call_2(form, room, b.ch, 4, a.node, b.node)
 }
 
 // (a (q . (: . sexp)) (: . args))
-fn lay_apply(form: &[u8], room: &mut [u8], ch: Charges) -> Laid
+fn lay_apply(form: &[u8], room: &mut [u8], ch: Charges) -> Made
     requires { Held form.now room.old ch × (ch.free + 132 ≤ free_limit) }
     ensures { LaidOk form.now room.old room.new ch 132 apply_pattern result }
 {
     let s = lay_name(form, room, ch, b':', b"sexp");
-    let c = s.ch;
-    let q = lay_headed(form, room, c, 1, s.node);
-    let d = q.ch;
-    let a = lay_name(form, room, d, b':', b"args");
-    let e = a.ch;
-    lay_call_2(form, room, e, 2, q.node, a.node)
+    let q = lay_headed(form, room, s.ch, 1, s.node);
+    let a = lay_name(form, room, q.ch, b':', b"args");
+    lay_call_2(form, room, a.ch, 2, q.node, a.node)
 }
 
 // (a 0 . (: . rest))
-fn lay_apply_nil(form: &[u8], room: &mut [u8], ch: Charges) -> Laid
+fn lay_apply_nil(form: &[u8], room: &mut [u8], ch: Charges) -> Made
     requires { Held form.now room.old ch × (ch.free + 66 ≤ free_limit) }
     ensures { LaidOk form.now room.old room.new ch 66 apply_null_pattern_1 result }
 {
     let r = lay_name(form, room, ch, b':', b"rest");
-    let c = r.ch;
-    let t = store::lay_pair(form, room, c, 0, r.node);
-    let d = t.ch;
-    lay_headed(form, room, d, 2, t.node)
+    let t = store::lay_pair(form, room, r.ch, 0, r.node);
+    lay_headed(form, room, t.ch, 2, t.node)
 }
 
 // (f x) and (r x)
@@ -146,14 +134,12 @@ fn lay_both(form: &[u8], room: &mut [u8], ch: Charges, x: usize) -> Both
     ensures { BothLaid form.now room.old room.new ch 72 (tree_in form.now room.old x) result }
 {
     let f = lay_call(form, room, ch, 5, x);
-    let c = f.ch;
-    let r = lay_call(form, room, c, 6, x);
-    let d = r.ch;
+    let r = lay_call(form, room, f.ch, 6, x);
     Both {
         inner: x,
         first: f.node,
         rest: r.node,
-        ch: d,
+        ch: r.ch,
     }
 }
 
@@ -163,8 +149,7 @@ fn lay_cons_both(form: &[u8], room: &mut [u8], ch: Charges) -> Both
     ensures { BothLaid form.now room.old room.new ch 184 cons_pattern result }
 {
     let x = lay_cons(form, room, ch);
-    let c = x.ch;
-    lay_both(form, room, c, x.node)
+    lay_both(form, room, x.ch, x.node)
 }
 
 // The patterns with ($ . atom) in them.
@@ -173,8 +158,7 @@ fn lay_atom_both(form: &[u8], room: &mut [u8], ch: Charges) -> Both
     ensures { BothLaid form.now room.old room.new ch 102 (pair (byte atom_match) (atom atom_name)) result }
 {
     let x = lay_name(form, room, ch, b'$', b"atom");
-    let c = x.ch;
-    lay_both(form, room, c, x.node)
+    lay_both(form, room, x.ch, x.node)
 }
 
 // (a (q . (: . sexp)) (: . args)), (q . 0) and (a 0 . (: . rest))
@@ -183,16 +167,13 @@ fn lay_others(form: &[u8], room: &mut [u8], ch: Charges) -> Others
     ensures { OthersLaid form.now room.old room.new ch result }
 {
     let a = lay_apply(form, room, ch);
-    let c = a.ch;
-    let q = lay_headed(form, room, c, 1, 0);
-    let d = q.ch;
-    let n = lay_apply_nil(form, room, d);
-    let e = n.ch;
+    let q = lay_headed(form, room, a.ch, 1, 0);
+    let n = lay_apply_nil(form, room, q.ch);
     Others {
         apply: a.node,
         quote_nil: q.node,
         apply_nil: n.node,
-        ch: e,
+        ch: n.ch,
     }
 }
 
@@ -202,11 +183,8 @@ pub fn lay_patterns(form: &[u8], room: &mut [u8], ch: Charges) -> Prepared
     ensures { PatternsLaid form.now room.old room.new ch result }
 {
     let a = lay_cons_both(form, room, ch);
-    let c = a.ch;
-    let b = lay_atom_both(form, room, c);
-    let d = b.ch;
-    let o = lay_others(form, room, d);
-    let e = o.ch;
+    let b = lay_atom_both(form, room, a.ch);
+    let o = lay_others(form, room, b.ch);
     let p = Patterns {
         cons: a.inner,
         first_cons: a.first,
@@ -217,5 +195,8 @@ pub fn lay_patterns(form: &[u8], room: &mut [u8], ch: Charges) -> Prepared
         quote_nil: o.quote_nil,
         apply_nil: o.apply_nil,
     };
-    Prepared { patterns: p, ch: e }
+    Prepared {
+        patterns: p,
+        ch: o.ch,
+    }
 }

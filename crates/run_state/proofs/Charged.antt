@@ -12,7 +12,7 @@ use Rattle.meaning.specs.Meter.{Out, done, stop, Spent, ◌>>◌, give, charge}
 use Rattle.meaning.proofs.MeterLaws.{seq_at, seq_stop}
 use Rattle.store.specs.declared.Charges.{Charges}
 use Rattle.store.specs.declared.Made.{Made}
-use Rattle.store.specs.declared.Made.TheVariants.{Node, Refused}
+use Rattle.std.specs.Prelude.{Result, Ok, Err}
 use Rattle.store.specs.Nodes.{tree_at}
 use Rattle.store.specs.Makers.{Grown, Bought, Over, MadeOk}
 use Rattle.store.proofs.Ready.{grown_both}
@@ -41,7 +41,7 @@ module _ (f s s' : List ℕ) (w : Work) (k : ℕ) (t : Tree) where
   charged_stop r o = rw o.refusal (seq_stop (charge k) (give t) (spent_of w) _ UnitsOut (charge_over (spent_of w) k (over_fits_not o)))
 
 -- work that ends in what a maker answered: w' has the passes and the mark, c₁ the charges before the maker
-pub did_made : (f s s₁ s₂ : List ℕ) (w w' q : Work) (c₁ : Charges) (x t : Tree) (k : ℕ) (a : Made) (def : Out Spent Tree) → Grown f s s₁ w.ch c₁ → MadeOk f s₁ s₂ c₁ k t a
+pub did_made : (f s s₁ s₂ : List ℕ) (w w' q : Work) (c₁ : Charges) (x t : Tree) (k : ℕ) (a : Result Made Refusal) (def : Out Spent Tree) → Grown f s s₁ w.ch c₁ → MadeOk f s₁ s₂ c₁ k t a
     → def ≡ (charge k >> give t) (record { units = c₁.units; passes = w'.passes; mark = w'.mark }) → equal_to x t ≡ false → q ≡ work_made w' a → Did f s s₂ w x def q
 unfolding Did Says MadeOk
 did_made f s s₁ s₂ w w' q c₁ x t k a def g h d o e = rw e (go a h)
@@ -49,11 +49,11 @@ did_made f s s₁ s₂ w w' q c₁ x t k a def g h d o e = rw e (go a h)
     before : Work
     before = record { ch = c₁; passes = w'.passes; mark = w'.mark; last = w'.last }
 
-    go : (b : Made) → MadeOk f s₁ s₂ c₁ k t b → Did f s s₂ w x def (work_made w' b)
-    go (Node n c) b = record {
+    go : (b : Result Made Refusal) → MadeOk f s₁ s₂ c₁ k t b → Did f s s₂ w x def (work_made w' b)
+    go (Ok m) b = record {
       grown = grown_both g b.stands.grown;
       ready = b.stands.ready;
-      gives = d ∙ charged_node f s₁ s₂ before k t n c b;
+      gives = d ∙ charged_node f s₁ s₂ before k t m.node m.ch b;
       differs = rw b.stands.tree o;
     }
-    go (Refused r) b = record { after = _; stops = d ∙ charged_stop f s₁ s₂ before k t r b }
+    go (Err r) b = record { after = _; stops = d ∙ charged_stop f s₁ s₂ before k t r b }

@@ -9,7 +9,7 @@ use Rattle.meaning.specs.Tree.{Tree, equal_to}
 use Rattle.meaning.specs.Meter.{Out, done, stop, Spent}
 use Rattle.store.specs.declared.Charges.{Charges}
 use Rattle.store.specs.declared.Made.{Made}
-use Rattle.store.specs.declared.Made.TheVariants.{Node, Refused}
+use Rattle.std.specs.Prelude.{Result, Ok, Err}
 use Rattle.store.specs.Nodes.{tree_at}
 use Rattle.store.specs.Store.{Ready}
 use Rattle.store.specs.Makers.{Grown}
@@ -93,8 +93,8 @@ not_marked w off e = let z : (w.mark || off) ≡ w.mark = rw e (or_false w.mark)
     or_false true = refl
     or_false false = refl
 
-pub put_node : (w : Work) (m : Made) (n : ℕ) (c : Charges) → m ≡ Node n c → record { ch = c; passes = w.passes; mark = w.mark; last = Changed n } ≡ work_made w m
-put_node w m n c e = rw e
+pub put_node : (w : Work) (m : Result Made Refusal) (n : Made) → m ≡ Ok n → record { ch = n.ch; passes = w.passes; mark = w.mark; last = Changed n.node } ≡ work_made w m
+put_node w m n e = rw e
 
-pub put_refused : (w q : Work) (m : Made) (r : Refusal) → m ≡ Refused r → q ≡ with_last w (Stopped r) → q ≡ work_made w m
+pub put_refused : (w q : Work) (m : Result Made Refusal) (r : Refusal) → m ≡ Err r → q ≡ with_last w (Stopped r) → q ≡ work_made w m
 put_refused w q m r e i = rw e i

@@ -1,10 +1,9 @@
 -- What a run has spent, as the definitions have it, and what a piece of work says.
-use Rattle.std.specs.Prelude.{ℕ, ◌≡◌, List, Bool, false, ◌||◌}
+use Rattle.std.specs.Prelude.{ℕ, ◌≡◌, List, Bool, false, ◌||◌, Result, Ok, Err}
 use Rattle.refusals.specs.declared.Refusal.{Refusal}
 use Rattle.meaning.specs.Tree.{Tree, equal_to}
 use Rattle.meaning.specs.Meter.{Out, done, stop, Spent}
 use Rattle.store.specs.declared.Made.{Made}
-use Rattle.store.specs.declared.Made.TheVariants.{Node, Refused}
 use Rattle.store.specs.Nodes.{tree_at}
 use Rattle.store.specs.Store.{Ready}
 use Rattle.store.specs.Makers.{Grown}
@@ -25,9 +24,9 @@ abbrev pub marked_work : Work → Bool → Work
 marked_work w off = record { ch = w.ch; passes = w.passes; mark = w.mark || off; last = w.last }
 
 -- what a maker answered, as work
-abbrev pub work_made : Work → Made → Work
-work_made w (Node n c) = record { ch = c; passes = w.passes; mark = w.mark; last = Changed n }
-work_made w (Refused r) = with_last w (Stopped r)
+abbrev pub work_made : Work → Result Made Refusal → Work
+work_made w (Ok m) = record { ch = m.ch; passes = w.passes; mark = w.mark; last = Changed m.node }
+work_made w (Err r) = with_last w (Stopped r)
 
 -- ---- what a piece of work on the tree x says of the definition's outcome `def`
 

@@ -88,17 +88,16 @@ pub fn marked(w: Work, off: bool) -> Work
 }
 
 // What a maker answered, as work: changed to its node, or stopped.
-pub fn put(w: Work, m: Made) -> Work
+pub fn put(w: Work, m: Result<Made, Refusal>) -> Work
     ensures { result ≡ work_made w m }
 {
     match m {
-        Made::Refused(e) => with(w, Outcome::Stopped(e)),
-        Made::Node(n, c) => Work {
-            ch: c,
-            passes: w.passes,
-            mark: w.mark,
-            last: Outcome::Changed(n),
+        Ok(made) => Work {
+            ch: made.ch,
+            last: Outcome::Changed(made.node),
+            ..w
         },
+        Err(e) => with(w, Outcome::Stopped(e)),
     }
 }
 

@@ -13,6 +13,7 @@ ghost use Rattle.sexp.specs.Tests.{is_byte_tree, is_nil};
 ghost use Rattle.sexp.specs.Lists.{enlist_onto, Items};
 ghost use Rattle.sexp.specs.Canon.{Canon, Alike, compared};
 
+use refusals::Refusal;
 use store::{Cell, Charges, Made};
 
 // ---- tests
@@ -88,38 +89,26 @@ pub fn enlist_node<'a>(
     items: &'a [u16],
     k: usize,
     tail: usize,
-) -> Made
+) -> Result<Made, Refusal>
     requires { Ready form.now room.old ch tail × Items room.old ch items.now k }
     ensures { MadeOk form.now room.old room.new ch (pair_cost * k) (enlist_onto (map (tree_in form.now room.old) (take k items.now)) (tree_in form.now room.old tail)) result }
 {
-    let mut c = ch;
+    let mut made = Made { node: tail, ch };
     let mut i = k;
-    let mut m = tail;
     while 0 < i {
         i -= 1;
-        match store::pair_node(form, room, c, wide(items[i]), m) {
-            Made::Node(q, d) => {
-                m = q;
-                c = d;
-            }
-            Made::Refused(e) => {
-                return Made::Refused(e);
-            }
-        }
+        made = store::pair_node(form, room, made.ch, wide(items[i]), made.node)?;
     }
-    Made::Node(m, c)
+    Ok(made)
 }
 
 // helpers.rs, `quote`: (1 . n).
-pub fn quote_node(form: &[u8], room: &mut [u8], ch: Charges, n: usize) -> Made
+pub fn quote_node(form: &[u8], room: &mut [u8], ch: Charges, n: usize) -> Result<Made, Refusal>
     requires { Ready form.now room.old ch n }
     ensures { MadeOk form.now room.old room.new ch (5 + pair_cost) (quote (tree_in form.now room.old n)) result }
 {
-    let one: [u8; 1] = [1];
-    match store::atom_node(form, room, ch, &one) {
-        Made::Node(q, c) => store::pair_node(form, room, c, q, n),
-        Made::Refused(e) => Made::Refused(e),
-    }
+    let one = store::atom_node(form, room, ch, &[1])?;
+    store::pair_node(form, room, one.ch, one.node, n)
 }
 
 // ---- equality

@@ -203,9 +203,9 @@ laid f s t c c₁ d k n x p e en =
 -- ---- what callers of the charged makers go by
 
 module _ (f s t : List ℕ) (c : Charges) (k : ℕ) (x : Tree) (a : Result Made Refusal) (h : MadeOk f s t c k x a) where
-  pub made_node : (q : ℕ) (d : Charges) → a ≡ Ok (record { node = q; ch = d }) → Bought f s t c d k q x
+  pub made_node : (q : Made) → a ≡ Ok q → Bought f s t c q.ch k q.node x
   unfolding MadeOk
-  made_node q d e = rw e at h
+  made_node q e = rw e at h
 
   pub made_over : (r : Refusal) → a ≡ Err r → Over c k r
   unfolding MadeOk

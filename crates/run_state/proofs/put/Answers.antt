@@ -2,8 +2,8 @@
 use Rattle.run_state.proofs.Does as does
 use Rattle.run_state.proofs.put.Goals as goal
 
-pub returns-in-Refused : goal.returns-in-Refused
-returns-in-Refused c = search does.put_refused
+pub returns-in-Err : goal.returns-in-Err
+returns-in-Err c = search does.put_refused
 
-pub returns-in-Node : goal.returns-in-Node
-returns-in-Node c = search does.put_node
+pub returns-in-Ok : goal.returns-in-Ok
+returns-in-Ok c = search does.put_node

@@ -18,8 +18,8 @@ pair_node-requires c = (search lists.enlist_item, search lists.enlist_rest)
 pub loop-i-preserved : goal.loop-i-preserved
 loop-i-preserved c = search lists.enlist_turn
 
-pub returns-in-Refused : goal.returns-in-Refused
-returns-in-Refused c = search lists.enlist_over
+pub returns-in_err-made : goal.returns-in_err-made
+returns-in_err-made c = search (rules, lists.enlist_over)
 
 pub returns : goal.returns
 returns c = search lists.enlist_ends

@@ -3,7 +3,7 @@ use Rattle.sexp.proofs.Lists as lists
 use Rattle.sexp.proofs.enlist_node.Given as goal
 
 abbrev pub invariant-loop-i : goal.invariant-loop-i
-invariant-loop-i l = lists.Enlisting l.form l.initial.room l.room l.initial.c l.c l.items l.k l.i l.m l.tail
+invariant-loop-i l = lists.Enlisting l.form l.initial.room l.room l.fn.ch l.made l.items l.k l.i l.tail
 
 abbrev pub decreases-loop-i : goal.decreases-loop-i
 decreases-loop-i l = l.i
