@@ -1,4 +1,5 @@
 -- call, step and eval_node: each return, and what each call asks. Assumes nothing.
+use Rattle.std.specs.Prelude.{Result, Ok, Err}
 use Prim.Native.Nat.{ℕ, ◌+◌, ◌-◌, ◌*◌, ◌≤◌, ◌<◌}
 use mathlib.Core.Path.{◌≡◌, refl, sym, ◌∙◌, ap}
 use mathlib.Core.List.{List, [], ◌∷◌}
@@ -29,13 +30,9 @@ use Rattle.evaluator.specs.declared.Head.{Head}
 use Rattle.evaluator.specs.declared.Head.TheVariants.{Quote, Call, Other}
 use Rattle.evaluator.specs.declared.Values.{Values}
 use Rattle.evaluator.specs.declared.Valued.{Valued}
-use Rattle.evaluator.specs.declared.Valued.TheVariants.{Value, Refused}
 use Rattle.evaluator.specs.declared.Args.{Args}
-use Rattle.evaluator.specs.declared.Args.TheVariants.{All}
-use Rattle.evaluator.specs.declared.Args.TheVariants.{Refused as Args-as-Refused}
 use Rattle.evaluator.specs.declared.Performed.{Performed}
 use Rattle.evaluator.specs.declared.Performed.TheVariants.{Done, Runs}
-use Rattle.evaluator.specs.declared.Performed.TheVariants.{Refused as Performed-as-Refused}
 use Rattle.evaluator.specs.Heads.{op_of, head_as, head_tree, accepted, items, args_of}
 use Rattle.evaluator.specs.Values.{state, stopped, ValuedOk, Nodes, AllGiven, ArgsOk, Asks, PerformedOk, answered}
 use Rattle.evaluator.proofs.Outcomes.{bind_stopped, stays, stops, answers, comes_since}
@@ -130,35 +127,35 @@ module _ (f s : List ℕ) (m : Meter) (o : Operator) (list env : ℕ) (b : Bool)
   abbrev called : Out Steps Tree
   called = call_b evaluate (op_of o) (proper_list (tree_at f s list)) (tree_at f s env) (state m)
 
-  pub call_refused : (s' : List ℕ) → not b ≡ true → PerformedOk f s s' m called (Performed-as-Refused Fails)
+  pub call_refused : (s' : List ℕ) → not b ≡ true → PerformedOk f s s' m called (Err Fails)
   unfolding PerformedOk
   call_refused s' n = not_accepted evaluate (op_of o) (tree_at f s env) (proper_list (tree_at f s list)) (state m) (sym eb ∙ not-true b n)
 
-  module _ (y : not b ≡ false) (s₁ : List ℕ) (a : Args) (h : ArgsOk f s s₁ m (each_value_b evaluate (items (tree_at f s list)) (tree_at f s env) (state m)) a) where
-    pub call_stopped : (r : Refusal) → a ≡ Args-as-Refused r → PerformedOk f s s₁ m called (Performed-as-Refused r)
+  module _ (y : not b ≡ false) (s₁ : List ℕ) (a : Result Args Refusal) (h : ArgsOk f s s₁ m (each_value_b evaluate (items (tree_at f s list)) (tree_at f s env) (state m)) a) where
+    pub call_stopped : (r : Refusal) → a ≡ Err r → PerformedOk f s s₁ m called (Err r)
     unfolding ArgsOk PerformedOk
     call_stopped r ea =
         let z : stopped (each_value_b evaluate (items (tree_at f s list)) (tree_at f s env) (state m)) ≡ some r = rw ea at h in
         call_stops evaluate (op_of o) (tree_at f s env) (tree_at f s list) (state m) r (sym eb ∙ not-false b y) z
 
-    module _ (v : Values) (m₁ : Meter) (ea : a ≡ All v m₁) where
-      all : AllGiven f s s₁ m m₁ v (each_value_b evaluate (items (tree_at f s list)) (tree_at f s env) (state m))
+    module _ (x : Args) (ea : a ≡ Ok x) where
+      all : AllGiven f s s₁ m x.meter x.values (each_value_b evaluate (items (tree_at f s list)) (tree_at f s env) (state m))
       unfolding ArgsOk
       all = rw ea at h
 
-      pub call_nodes : Nodes f s₁ m₁.ch v
+      pub call_nodes : Nodes f s₁ x.meter.ch x.values
       call_nodes = all.nodes
 
       abbrev made : Made
-      made = perform (op_of o) (args_of (op_of o) (tree_at f s₁ v.a) (tree_at f s₁ v.b) (tree_at f s₁ v.c))
+      made = perform (op_of o) (args_of (op_of o) (tree_at f s₁ x.values.a) (tree_at f s₁ x.values.b) (tree_at f s₁ x.values.c))
 
-      finishes : called ≡ finish_b evaluate made (state m₁)
+      finishes : called ≡ finish_b evaluate made (state x.meter)
       finishes =
-          call_given evaluate (op_of o) (tree_at f s env) (tree_at f s list) (state m) (state m₁) all.values (sym eb ∙ not-false b y) all.value
+          call_given evaluate (op_of o) (tree_at f s env) (tree_at f s list) (state m) (state x.meter) all.values (sym eb ∙ not-false b y) all.value
           ∙ rw (all.stand.first, all.stand.second, all.stand.third)
 
-      pub call_performs : (s₂ : List ℕ) (p : Performed) → PerformedOk f s₁ s₂ m₁ (finish_b evaluate made (state m₁)) p → PerformedOk f s s₂ m called p
-      call_performs s₂ p g = comes_since f s s₁ s₂ m m₁ _ called p g (sym finishes) all.grown all.free all.later
+      pub call_performs : (s₂ : List ℕ) (p : Result Performed Refusal) → PerformedOk f s₁ s₂ x.meter (finish_b evaluate made (state x.meter)) p → PerformedOk f s s₂ m called p
+      call_performs s₂ p g = comes_since f s s₁ s₂ m x.meter _ called p g (sym finishes) all.grown all.free all.later
 
 -- ---- step
 
@@ -174,7 +171,7 @@ module _ (f s : List ℕ) (m : Meter) (e env : ℕ) (q : Cell) where
   abbrev outcome : Out Steps Tree
   outcome = step_b evaluate (tree_at f s e) (tree_at f s env) (state m)
 
-  pub step_path : (a : Valued) (p : Performed) → ValuedOk f s s m (found_b (lookup (number (bytes_at f s e)) (tree_at f s env)) (state m)) a → p ≡ answered a → q ≡ cell_at s e → q ≡ Atom → PerformedOk f s s m outcome p
+  pub step_path : (a : Result Valued Refusal) (p : Result Performed Refusal) → ValuedOk f s s m (found_b (lookup (number (bytes_at f s e)) (tree_at f s env)) (state m)) a → p ≡ answered a → q ≡ cell_at s e → q ≡ Atom → PerformedOk f s s m outcome p
   unfolding step_b
   step_path a p h ea eq ep = rw (look_atom f s e q eq ep) (answers f s s m _ a p h ea)
 
@@ -194,15 +191,15 @@ module _ (f s : List ℕ) (m : Meter) (e env : ℕ) (q : Cell) where
           ap after_head (ap head_as (sym ex) ∙ ed) ∙ step_pair evaluate (tree_at f s o) (tree_at f s r) (tree_at f s env) (state m)
           ∙ ap (λ (t : Tree). step_b evaluate t (tree_at f s env) (state m)) (sym (look_pair f s m.ch e o r q ep eq))
 
-      pub step_quote : d ≡ Quote → PerformedOk f s s m outcome (Done r m)
+      pub step_quote : d ≡ Quote → PerformedOk f s s m outcome (Ok (Done (record { node = r; meter = m })))
       unfolding operate_b give
-      step_quote ex = answers f s s m outcome (Value r m) (Done r m) (stays f s m outcome r step_list (sym (operates Quote ex))) refl
+      step_quote ex = answers f s s m outcome (Ok (record { node = r; meter = m })) (Ok (Done (record { node = r; meter = m }))) (stays f s m outcome r step_list (sym (operates Quote ex))) refl
 
-      pub step_other : d ≡ Other → PerformedOk f s s m outcome (Performed-as-Refused NoOperator)
+      pub step_other : d ≡ Other → PerformedOk f s s m outcome (Err NoOperator)
       unfolding operate_b refuse stopped PerformedOk
       step_other ex = ap stopped (sym (operates Other ex))
 
-      pub step_call : (s' : List ℕ) (a : Performed) (x : Operator) → PerformedOk f s s' m (call_b evaluate (op_of x) (proper_list (tree_at f s r)) (tree_at f s env) (state m)) a → d ≡ Call x → PerformedOk f s s' m outcome a
+      pub step_call : (s' : List ℕ) (a : Result Performed Refusal) (x : Operator) → PerformedOk f s s' m (call_b evaluate (op_of x) (proper_list (tree_at f s r)) (tree_at f s env) (state m)) a → d ≡ Call x → PerformedOk f s s' m outcome a
       unfolding operate_b
       step_call s' a x k ex = comes_since f s s s' m m _ outcome a k (operates (Call x) ex) (grown_none f s m.ch h.held) refl (omega arith)
 
@@ -217,14 +214,14 @@ module _ (f s₀ s : List ℕ) (m₀ m : Meter) (e env : ℕ) (o : Out Steps Tre
   pub node_length : (s₁ : List ℕ) → length s₁ ≡ length s → length s₁ ≡ length s₀
   node_length s₁ k = k ∙ i.grown.long
 
-  pub node_out : 4096 ≤ m.steps → ValuedOk f s₀ s m₀ o (Refused StepsOut)
+  pub node_out : 4096 ≤ m.steps → ValuedOk f s₀ s m₀ o (Err StepsOut)
   node_out l = stops f s₀ s m₀ o StepsOut (ap stopped i.gives ∙ evaluate_out (tree_at f s e) (tree_at f s env) (state m) l)
 
   module _ (l : m.steps < 4096) where
     pub node_down : (t : ℕ) → 4 * (4097 - m₀.steps) ≡ t → 4 * (4097 - (m.steps + 1)) + 3 < t
     node_down t et = let k : m₀.steps ≤ m.steps = i.later in omega arith
 
-    module _ (s' : List ℕ) (a : Performed) (h : PerformedOk f s s' (stepped m) (step_b evaluate (tree_at f s e) (tree_at f s env) (state (stepped m))) a) where
+    module _ (s' : List ℕ) (a : Result Performed Refusal) (h : PerformedOk f s s' (stepped m) (step_b evaluate (tree_at f s e) (tree_at f s env) (state (stepped m))) a) where
       -- what came of the expression, for the whole
       whole : PerformedOk f s₀ s' m₀ o a
       whole =
@@ -232,15 +229,18 @@ module _ (f s₀ s : List ℕ) (m₀ m : Meter) (e env : ℕ) (o : Out Steps Tre
           let on : o ≡ step_b evaluate (tree_at f s e) (tree_at f s env) (state (stepped m)) = i.gives ∙ evaluate_on (tree_at f s e) (tree_at f s env) (state m) l in
           comes_since f s₀ s s' m₀ (stepped m) _ o a h (sym on) i.grown i.free (omega arith)
 
-      pub node_value : (q : ℕ) (u : Meter) → a ≡ Done q u → ValuedOk f s₀ s' m₀ o (Value q u)
+      pub node_value : (p : Performed) (q : Valued) → a ≡ Ok p → p ≡ Done q → ValuedOk f s₀ s' m₀ o (Ok q)
       unfolding PerformedOk ValuedOk
-      node_value q u ea = rw ea at whole
+      node_value p q ea ep = let e : a ≡ Ok (Done q) = rw ep at ea in rw e at whole
 
-      pub node_refused : (r : Refusal) → a ≡ Performed-as-Refused r → ValuedOk f s₀ s' m₀ o (Refused r)
+      pub node_refused : (r : Refusal) → a ≡ Err r → ValuedOk f s₀ s' m₀ o (Err r)
       unfolding PerformedOk ValuedOk
       node_refused r ea = rw ea at whole
 
-      module _ (x z : ℕ) (u : Meter) (ea : a ≡ Runs x z u) where
+      module _ (p : Performed) (x z : ℕ) (u : Meter) (eo : a ≡ Ok p) (ep : p ≡ Runs x z u) where
+        ea : a ≡ Ok (Runs x z u)
+        ea = rw ep at eo
+
         pub node_again : Asks f s₀ s' m₀ u x z o
         unfolding PerformedOk
         node_again = rw ea at whole

@@ -1,4 +1,5 @@
 -- The loop over an argument list. Assumes nothing.
+use Rattle.std.specs.Prelude.{Result, Ok, Err}
 use Prim.Native.Nat.{ℕ, zero, suc, ◌+◌, ◌-◌, ◌*◌, ◌≤◌, ◌<◌}
 use mathlib.Core.Path.{◌≡◌, refl, sym, ◌∙◌, ap}
 use mathlib.Core.List.{List, [], ◌∷◌, ◌++◌, append_assoc, append-nil}
@@ -26,9 +27,6 @@ use Rattle.store.proofs.Ready.{room, small, nil_ready, falls_right, ready_left, 
 use Rattle.evaluator.specs.declared.Meter.{Meter}
 use Rattle.evaluator.specs.declared.Values.{Values}
 use Rattle.evaluator.specs.declared.Valued.{Valued}
-use Rattle.evaluator.specs.declared.Valued.TheVariants.{Value, Refused}
-use Rattle.evaluator.specs.declared.Args.TheVariants.{All}
-use Rattle.evaluator.specs.declared.Args.TheVariants.{Refused as Args-as-Refused}
 use Rattle.evaluator.specs.Heads.{items}
 use Rattle.evaluator.specs.Values.{state, stopped, Given, ValuedOk, Nodes, put_value, Stand, ArgsOk}
 use Rattle.evaluator.proofs.Outcomes.{bind_stopped, is_value, is_refused}
@@ -158,7 +156,7 @@ module _ (f s₀ : List ℕ) (m₀ : Meter) (list env : ℕ) (s : List ℕ) (m :
   same_env = grown_tree i.grown i.environment
 
   module _ (q : Cell) where
-    pub each_ends : q ≡ cell_at s p → q ≡ Atom → ArgsOk f s₀ s m₀ (each_value_b evaluate (items (tree_at f s₀ list)) (tree_at f s₀ env) (state m₀)) (All v m)
+    pub each_ends : q ≡ cell_at s p → q ≡ Atom → ArgsOk f s₀ s m₀ (each_value_b evaluate (items (tree_at f s₀ list)) (tree_at f s₀ env) (state m₀)) (Ok (record { values = v; meter = m }))
     unfolding ArgsOk items each_value_b onto give
     each_ends eq ep = record {
       grown = i.grown;
@@ -181,8 +179,8 @@ module _ (f s₀ : List ℕ) (m₀ : Meter) (list env : ℕ) (s : List ℕ) (m :
       unfolding items
       element = rw (look_pair f s m.ch p e r q ep eq)
 
-      module _ (s₁ : List ℕ) (a : Valued) (h : ValuedOk f s s₁ m (evaluate (tree_at f s e) (tree_at f s env) (state m)) a) where
-        pub each_refused : (n : Refusal) → a ≡ Refused n → ArgsOk f s₀ s₁ m₀ (each_value_b evaluate (items (tree_at f s₀ list)) (tree_at f s₀ env) (state m₀)) (Args-as-Refused n)
+      module _ (s₁ : List ℕ) (a : Result Valued Refusal) (h : ValuedOk f s s₁ m (evaluate (tree_at f s e) (tree_at f s env) (state m)) a) where
+        pub each_refused : (n : Refusal) → a ≡ Err n → ArgsOk f s₀ s₁ m₀ (each_value_b evaluate (items (tree_at f s₀ list)) (tree_at f s₀ env) (state m₀)) (Err n)
         unfolding ArgsOk
         each_refused n ea =
             let z : stopped (evaluate (tree_at f s e) env_tree (state m)) ≡ some n = rw same_env at (is_refused f s s₁ m _ a n h ea) in
@@ -190,9 +188,15 @@ module _ (f s₀ : List ℕ) (m₀ : Meter) (list env : ℕ) (s : List ℕ) (m :
             ∙ ap (λ (x : List Tree). stopped (each_value_b evaluate x env_tree (state m))) element
             ∙ each_stops evaluate (tree_at f s e) (items (tree_at f s r)) env_tree (state m) n z
 
-        module _ (x : ℕ) (m₁ : Meter) (ea : a ≡ Value x m₁) where
+        module _ (z : Valued) (ea : a ≡ Ok z) where
+          abbrev x : ℕ
+          x = z.node
+
+          abbrev m₁ : Meter
+          m₁ = z.meter
+
           given : Given f s s₁ m m₁ x (evaluate (tree_at f s e) (tree_at f s env) (state m))
-          given = is_value f s s₁ m _ a x m₁ h ea
+          given = is_value f s s₁ m _ a z h ea
 
           valued : evaluate (tree_at f s e) env_tree (state m) ≡ done (tree_at f s₁ x) (state m₁)
           valued = rw same_env at given.value

@@ -1,4 +1,5 @@
 -- A path's walk down the environment. Assumes nothing.
+use Rattle.std.specs.Prelude.{Result, Ok, Err}
 use Prim.Native.Nat.{ℕ, zero, suc, ◌+◌, ◌^◌, ◌≤◌, ◌<◌}
 use mathlib.Core.Path.{◌≡◌, refl, sym, ◌∙◌, ap}
 use mathlib.Core.List.{List, [], ◌∷◌}
@@ -21,7 +22,6 @@ use Rattle.store.specs.Nodes.{tree_at}
 use Rattle.store.specs.Store.{Ready}
 use Rattle.store.proofs.Ready.{room, nil_ready, ready_left, ready_right, look_pair, look_atom, atom_short}
 use Rattle.evaluator.specs.declared.Meter.{Meter}
-use Rattle.evaluator.specs.declared.Valued.TheVariants.{Value, Refused}
 use Rattle.evaluator.specs.Values.{state, stopped, ValuedOk}
 use Rattle.evaluator.proofs.Outcomes.{stays, stops}
 
@@ -36,7 +36,7 @@ lookup_more (suc n) t h = refl
 
 -- the path 0
 pub path_zero : (f s z : List ℕ) (m : Meter) (n env : ℕ) (b : Bool) → b ≡ eqb (number z) 0 → z ≡ bytes_at f s n → b ≡ true → Ready f s m.ch n
-    → ValuedOk f s s m (found_b (lookup (number (bytes_at f s n)) (tree_at f s env)) (state m)) (Value 0 m)
+    → ValuedOk f s s m (found_b (lookup (number (bytes_at f s n)) (tree_at f s env)) (state m)) (Ok (record { node = 0; meter = m }))
 unfolding found_b give
 path_zero f s z m n env b e ez y h =
     let k : number (bytes_at f s n) ≡ 0 = ap number (sym ez) ∙ eqb-true (number z) 0 (sym e ∙ y) in
@@ -62,7 +62,7 @@ module _ (f s z : List ℕ) (m : Meter) (env q i : ℕ) (w : Walking f s z m env
   found n b e ez y = rw (← ez) (lookup_more (number z) (tree_at f s env) (eqb-false (number z) 0 (sym e ∙ y)) ∙ sym w.whole)
 
   pub walk_ends : (n k : ℕ) (b : Bool) → k ≤ i → k ≡ length (turns (number z)) → b ≡ eqb (number z) 0 → z ≡ bytes_at f s n → b ≡ false
-      → ValuedOk f s s m (found_b (lookup (number (bytes_at f s n)) (tree_at f s env)) (state m)) (Value q m)
+      → ValuedOk f s s m (found_b (lookup (number (bytes_at f s n)) (tree_at f s env)) (state m)) (Ok (record { node = q; meter = m }))
   unfolding found_b give follow
   walk_ends n k b l ek e ez y =
       let g : length (turns (number z)) ≤ i = omega arith in
@@ -71,7 +71,7 @@ module _ (f s z : List ℕ) (m : Meter) (env q i : ℕ) (w : Walking f s z m env
 
   module _ (p : Cell) where
     pub walk_fails : (n k : ℕ) (b : Bool) → i < k → k ≡ length (turns (number z)) → b ≡ eqb (number z) 0 → z ≡ bytes_at f s n → b ≡ false → p ≡ cell_at s q → p ≡ Atom
-        → ValuedOk f s s m (found_b (lookup (number (bytes_at f s n)) (tree_at f s env)) (state m)) (Refused Fails)
+        → ValuedOk f s s m (found_b (lookup (number (bytes_at f s n)) (tree_at f s env)) (state m)) (Err Fails)
     unfolding found_b refuse follow stopped
     walk_fails n k b l ek e ez y eq ep =
         let d : drop i (turns (number z)) ≡ get_or (turns (number z)) i false ∷ drop (i + 1) (turns (number z)) = next_turn (turns (number z)) i _ (omega arith) refl in

@@ -1,4 +1,5 @@
 -- What the evaluator's answers say of the definition's outcome.
+use Rattle.std.specs.Prelude.{Result, Ok, Err}
 use Rattle.std.specs.Prelude.{ℕ, ◌≤◌, ◌≡◌, List, eqb, get_or}
 use Rattle.std.proofs.Math.Option.{Option, none, some}
 use Rattle.refusals.specs.declared.Refusal.{Refusal}
@@ -7,22 +8,16 @@ use Rattle.meaning.specs.Meter.{Out, done, stop, Steps}
 use Rattle.meaning.specs.Evaluate.{evaluate}
 use Rattle.store.specs.declared.Charges.{Charges}
 use Rattle.store.specs.declared.Made.{Made}
-use Rattle.store.specs.declared.Made.TheVariants.{Node}
-use Rattle.store.specs.declared.Made.TheVariants.{Refused as Made-as-Refused}
 use Rattle.store.specs.Cells.{pick}
 use Rattle.store.specs.Nodes.{tree_at}
 use Rattle.store.specs.Store.{Ready}
 use Rattle.store.specs.Makers.{Grown}
 use Rattle.evaluator.specs.declared.Meter.{Meter}
 use Rattle.evaluator.specs.declared.Valued.{Valued}
-use Rattle.evaluator.specs.declared.Valued.TheVariants.{Value, Refused}
 use Rattle.evaluator.specs.declared.Values.{Values}
 use Rattle.evaluator.specs.declared.Args.{Args}
-use Rattle.evaluator.specs.declared.Args.TheVariants.{All}
-use Rattle.evaluator.specs.declared.Args.TheVariants.{Refused as Args-as-Refused}
 use Rattle.evaluator.specs.declared.Performed.{Performed}
 use Rattle.evaluator.specs.declared.Performed.TheVariants.{Done, Runs}
-use Rattle.evaluator.specs.declared.Performed.TheVariants.{Refused as Performed-as-Refused}
 
 -- a meter as the definition's state
 abbrev pub state : Meter → Steps
@@ -43,15 +38,14 @@ pub record Given (f s s' : List ℕ) (m m' : Meter) (q : ℕ) (o : Out Steps Tre
   pub value : o ≡ done (tree_at f s' q) (state m')
 
 -- from the room s and the meter m to the room s' and an answer, where the outcome is o
-unfoldable pub ValuedOk : List ℕ → List ℕ → List ℕ → Meter → Out Steps Tree → Valued → Type 0
+unfoldable pub ValuedOk : List ℕ → List ℕ → List ℕ → Meter → Out Steps Tree → Result Valued Refusal → Type 0
 unfolding stopped
-ValuedOk f s s' m o (Value q m') = Given f s s' m m' q o
-ValuedOk f s s' m o (Refused r) = stopped o ≡ some r
+ValuedOk f s s' m o (Ok a) = Given f s s' m a.meter a.node o
+ValuedOk f s s' m o (Err r) = stopped o ≡ some r
 
--- a maker's answer, with the steps
+-- what a maker made, with the steps
 abbrev pub metered : Made → ℕ → Valued
-metered (Node q c) k = Value q (record { steps = k; ch = c })
-metered (Made-as-Refused r) k = Refused r
+metered a k = record { node = a.node; meter = record { steps = k; ch = a.ch } }
 
 -- ---- the values of the arguments
 
@@ -81,10 +75,10 @@ pub record AllGiven (f s s' : List ℕ) (m m' : Meter) (v : Values) (o : Out Ste
   pub stand : Stand f s' v values
   pub value : o ≡ done values (state m')
 
-unfoldable pub ArgsOk : List ℕ → List ℕ → List ℕ → Meter → Out Steps (List Tree) → Args → Type 0
+unfoldable pub ArgsOk : List ℕ → List ℕ → List ℕ → Meter → Out Steps (List Tree) → Result Args Refusal → Type 0
 unfolding stopped
-ArgsOk f s s' m o (All v m') = AllGiven f s s' m m' v o
-ArgsOk f s s' m o (Args-as-Refused r) = stopped o ≡ some r
+ArgsOk f s s' m o (Ok a) = AllGiven f s s' m a.meter a.values o
+ArgsOk f s s' m o (Err r) = stopped o ≡ some r
 
 -- ---- what comes of an expression or of an operator's arguments
 
@@ -98,13 +92,13 @@ pub record Asks (f s s' : List ℕ) (m m' : Meter) (p e : ℕ) (o : Out Steps Tr
   pub gives : o ≡ evaluate (tree_at f s' p) (tree_at f s' e) (state m')
 
 -- a value, a program to run, or a refusal, where the outcome is o
-unfoldable pub PerformedOk : List ℕ → List ℕ → List ℕ → Meter → Out Steps Tree → Performed → Type 0
+unfoldable pub PerformedOk : List ℕ → List ℕ → List ℕ → Meter → Out Steps Tree → Result Performed Refusal → Type 0
 unfolding stopped
-PerformedOk f s s' m o (Done q m') = Given f s s' m m' q o
-PerformedOk f s s' m o (Runs p e m') = Asks f s s' m m' p e o
-PerformedOk f s s' m o (Performed-as-Refused r) = stopped o ≡ some r
+PerformedOk f s s' m o (Ok (Done a)) = Given f s s' m a.meter a.node o
+PerformedOk f s s' m o (Ok (Runs p e m')) = Asks f s s' m m' p e o
+PerformedOk f s s' m o (Err r) = stopped o ≡ some r
 
 -- an answer, as what comes
-abbrev pub answered : Valued → Performed
-answered (Value q m) = Done q m
-answered (Refused r) = Performed-as-Refused r
+abbrev pub answered : Result Valued Refusal → Result Performed Refusal
+answered (Ok a) = Ok (Done a)
+answered (Err r) = Err r

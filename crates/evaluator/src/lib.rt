@@ -29,11 +29,11 @@ pub struct Meter {
     pub ch: Charges,
 }
 
-// A node that stands for the value, and what was spent; or a refusal.
+// A node that stands for the value, and what was spent.
 #[derive(Clone, Copy)]
-pub enum Valued {
-    Value(usize, Meter),
-    Refused(Refusal),
+pub struct Valued {
+    pub node: usize,
+    pub meter: Meter,
 }
 
 #[derive(Clone, Copy)]
@@ -64,31 +64,36 @@ pub struct Values {
     pub c: usize,
 }
 
+// All arguments' values, and what was spent.
 #[derive(Clone, Copy)]
-pub enum Args {
-    All(Values, Meter),
-    Refused(Refusal),
+pub struct Args {
+    pub values: Values,
+    pub meter: Meter,
 }
 
-// What comes of an expression or of an operator's arguments: a value, or a program to run in an environment, and what was spent; or a
-// refusal. (A refusal beside the value, not a Valued for both: an evaluation within another takes 48 bytes less of stack.)
+// What comes of an expression or of an operator's arguments: a value, or a program to run in an environment, and what was spent.
 #[derive(Clone, Copy)]
 pub enum Performed {
-    Done(usize, Meter),
+    Done(Valued),
     Runs(usize, usize, Meter),
-    Refused(Refusal),
 }
 
 // ---- paths
 
 // The part of env that the path at node n leads to.
-fn path_node<'a>(form: &'a [u8], room: &'a [u8], m: Meter, n: usize, env: usize) -> Valued
+fn path_node<'a>(
+    form: &'a [u8],
+    room: &'a [u8],
+    m: Meter,
+    n: usize,
+    env: usize,
+) -> Result<Valued, Refusal>
     requires { Ready form.now room.now m.ch n × Ready form.now room.now m.ch env × (cell_at room.now n ≡ Atom) }
     ensures { ValuedOk form.now room.now room.now m (found_b (lookup (number (bytes_at form.now room.now n)) (tree_in form.now room.now env)) (state m)) result }
 {
     let b = store::atom_bytes(form, room, n);
     if paths::is_zero(b) {
-        return Valued::Value(0, m);
+        return Ok(Valued { node: 0, meter: m });
     }
     let count = paths::turn_count(b);
     let mut q = env;
@@ -96,7 +101,7 @@ fn path_node<'a>(form: &'a [u8], room: &'a [u8], m: Meter, n: usize, env: usize)
     while i < count {
         match store::look_node(room, q) {
             Cell::Atom => {
-                return Valued::Refused(Refusal::Fails);
+                return Err(Refusal::Fails);
             }
             Cell::Pair(l, r) => {
                 if paths::turn(b, i) {
@@ -109,7 +114,7 @@ fn path_node<'a>(form: &'a [u8], room: &'a [u8], m: Meter, n: usize, env: usize)
             }
         }
     }
-    Valued::Value(q, m)
+    Ok(Valued { node: q, meter: m })
 }
 
 // ---- the operator and its argument list
@@ -186,78 +191,78 @@ fn accepts<'a>(form: &'a [u8], room: &'a [u8], op: Operator, list: usize) -> boo
 
 // ---- what an operator does
 
+// What was made, at the cost of no step.
 fn metered(a: Made, steps: usize) -> Valued
     ensures { result ≡ Values·metered a steps }
 {
-    match a {
-        Made::Node(q, c) => Valued::Value(
-            q,
-            Meter {
-                steps: steps,
-                ch: c,
-            },
-        ),
-        Made::Refused(e) => Valued::Refused(e),
+    Valued {
+        node: a.node,
+        meter: Meter { steps, ch: a.ch },
     }
 }
 
 // A yes is the atom 1, a no is nil.
-fn yes_no(form: &[u8], room: &mut [u8], m: Meter, yes: bool) -> Valued
+fn yes_no(form: &[u8], room: &mut [u8], m: Meter, yes: bool) -> Result<Valued, Refusal>
     requires { Held form.now room.old m.ch }
     ensures { ValuedOk form.now room.old room.new m (finish_b evaluate (yes_no yes) (state m)) result }
 {
     if yes {
-        let one: [u8; 1] = [1];
-        let ch = m.ch;
-        return metered(store::atom_node(form, room, ch, &one), m.steps);
+        let one = store::atom_node(form, room, m.ch, &[1])?;
+        return Ok(metered(one, m.steps));
     }
-    Valued::Value(0, m)
+    Ok(Valued { node: 0, meter: m })
 }
 
 // `i`: a nil condition picks the third.
-fn choose<'a>(form: &'a [u8], room: &'a [u8], m: Meter, v: Values) -> Valued
+fn choose<'a>(form: &'a [u8], room: &'a [u8], m: Meter, v: Values) -> Result<Valued, Refusal>
     requires { Nodes form.now room.now m.ch v }
     ensures { ValuedOk form.now room.now room.now m (finish_b evaluate (makes (chosen (tree_in form.now room.now v.a) (tree_in form.now room.now v.b) (tree_in form.now room.now v.c)) 0) (state m)) result }
 {
     if sexp::is_nil_node(form, room, v.a) {
-        return Valued::Value(v.c, m);
+        return Ok(Valued {
+            node: v.c,
+            meter: m,
+        });
     }
-    Valued::Value(v.b, m)
+    Ok(Valued {
+        node: v.b,
+        meter: m,
+    })
 }
 
 // `c`
-fn cons(form: &[u8], room: &mut [u8], m: Meter, l: usize, r: usize) -> Valued
+fn cons(form: &[u8], room: &mut [u8], m: Meter, l: usize, r: usize) -> Result<Valued, Refusal>
     requires { Ready form.now room.old m.ch l × Ready form.now room.old m.ch r }
     ensures { ValuedOk form.now room.old room.new m (finish_b evaluate (makes (pair (tree_in form.now room.old l) (tree_in form.now room.old r)) pair_cost) (state m)) result }
 {
-    let ch = m.ch;
-    metered(store::pair_node(form, room, ch, l, r), m.steps)
+    let pair = store::pair_node(form, room, m.ch, l, r)?;
+    Ok(metered(pair, m.steps))
 }
 
 // `f`
-fn first<'a>(form: &'a [u8], room: &'a [u8], m: Meter, n: usize) -> Valued
+fn first<'a>(form: &'a [u8], room: &'a [u8], m: Meter, n: usize) -> Result<Valued, Refusal>
     requires { Ready form.now room.now m.ch n }
     ensures { ValuedOk form.now room.now room.now m (finish_b evaluate (left_of (tree_in form.now room.now n)) (state m)) result }
 {
     match store::look_node(room, n) {
-        Cell::Pair(l, _) => Valued::Value(l, m),
-        Cell::Atom => Valued::Refused(Refusal::Fails),
+        Cell::Pair(l, _) => Ok(Valued { node: l, meter: m }),
+        Cell::Atom => Err(Refusal::Fails),
     }
 }
 
 // `r`
-fn rest<'a>(form: &'a [u8], room: &'a [u8], m: Meter, n: usize) -> Valued
+fn rest<'a>(form: &'a [u8], room: &'a [u8], m: Meter, n: usize) -> Result<Valued, Refusal>
     requires { Ready form.now room.now m.ch n }
     ensures { ValuedOk form.now room.now room.now m (finish_b evaluate (right_of (tree_in form.now room.now n)) (state m)) result }
 {
     match store::look_node(room, n) {
-        Cell::Pair(_, r) => Valued::Value(r, m),
-        Cell::Atom => Valued::Refused(Refusal::Fails),
+        Cell::Pair(_, r) => Ok(Valued { node: r, meter: m }),
+        Cell::Atom => Err(Refusal::Fails),
     }
 }
 
 // `l`
-fn listp(form: &[u8], room: &mut [u8], m: Meter, n: usize) -> Valued
+fn listp(form: &[u8], room: &mut [u8], m: Meter, n: usize) -> Result<Valued, Refusal>
     requires { Ready form.now room.old m.ch n }
     ensures { ValuedOk form.now room.old room.new m (finish_b evaluate (yes_no (is_pair (tree_in form.now room.old n))) (state m)) result }
 {
@@ -268,14 +273,14 @@ fn listp(form: &[u8], room: &mut [u8], m: Meter, n: usize) -> Valued
 }
 
 // `=`
-fn same(form: &[u8], room: &mut [u8], m: Meter, a: usize, b: usize) -> Valued
+fn same(form: &[u8], room: &mut [u8], m: Meter, a: usize, b: usize) -> Result<Valued, Refusal>
     requires { Ready form.now room.old m.ch a × Ready form.now room.old m.ch b }
     ensures { ValuedOk form.now room.old room.new m (finish_b evaluate (same_atom (tree_in form.now room.old a) (tree_in form.now room.old b)) (state m)) result }
 {
     match store::look_node(room, a) {
-        Cell::Pair(_, _) => Valued::Refused(Refusal::Fails),
+        Cell::Pair(_, _) => Err(Refusal::Fails),
         Cell::Atom => match store::look_node(room, b) {
-            Cell::Pair(_, _) => Valued::Refused(Refusal::Fails),
+            Cell::Pair(_, _) => Err(Refusal::Fails),
             Cell::Atom => {
                 let yes = sexp::same_atoms(form, room, a, b);
                 yes_no(form, room, m, yes)
@@ -285,27 +290,30 @@ fn same(form: &[u8], room: &mut [u8], m: Meter, a: usize, b: usize) -> Valued
 }
 
 // A value or a refusal, as what comes of an operator.
-fn answered(a: Valued) -> Performed
+fn answered(a: Result<Valued, Refusal>) -> Result<Performed, Refusal>
     ensures { result ≡ Values·answered a }
 {
-    match a {
-        Valued::Value(q, m) => Performed::Done(q, m),
-        Valued::Refused(e) => Performed::Refused(e),
-    }
+    Ok(Performed::Done(a?))
 }
 
-fn perform(form: &[u8], room: &mut [u8], m: Meter, op: Operator, v: Values) -> Performed
+fn perform(
+    form: &[u8],
+    room: &mut [u8],
+    m: Meter,
+    op: Operator,
+    v: Values,
+) -> Result<Performed, Refusal>
     requires { Nodes form.now room.old m.ch v }
     ensures { PerformedOk form.now room.old room.new m (finish_b evaluate (Operator·perform (op_of op) (args_of (op_of op) (tree_in form.now room.old v.a) (tree_in form.now room.old v.b) (tree_in form.now room.old v.c))) (state m)) result }
 {
     match op {
-        Operator::Apply => Performed::Runs(v.a, v.b, m),
+        Operator::Apply => Ok(Performed::Runs(v.a, v.b, m)),
         Operator::Choose => answered(choose(form, room, m, v)),
         Operator::Cons => answered(cons(form, room, m, v.a, v.b)),
         Operator::First => answered(first(form, room, m, v.a)),
         Operator::Rest => answered(rest(form, room, m, v.a)),
         Operator::Listp => answered(listp(form, room, m, v.a)),
-        Operator::Raise => Performed::Refused(Refusal::Fails),
+        Operator::Raise => Err(Refusal::Fails),
         Operator::Same => answered(same(form, room, m, v.a, v.b)),
     }
 }
@@ -316,33 +324,23 @@ fn perform(form: &[u8], room: &mut [u8], m: Meter, op: Operator, v: Values) -> P
 fn with(v: Values, k: usize, n: usize) -> Values
     ensures { result ≡ put_value v k n }
 {
-    if k == 0 {
-        return Values {
-            a: n,
-            b: v.b,
-            c: v.c,
-        };
+    match k {
+        0 => Values { a: n, ..v },
+        1 => Values { b: n, ..v },
+        2 => Values { c: n, ..v },
+        _ => v,
     }
-    if k == 1 {
-        return Values {
-            a: v.a,
-            b: n,
-            c: v.c,
-        };
-    }
-    if k == 2 {
-        return Values {
-            a: v.a,
-            b: v.b,
-            c: n,
-        };
-    }
-    v
 }
 
 // The values of all arguments, left to right.
 #[cycle(evaluating)]
-fn eval_each(form: &[u8], room: &mut [u8], m: Meter, list: usize, env: usize) -> Args
+fn eval_each(
+    form: &[u8],
+    room: &mut [u8],
+    m: Meter,
+    list: usize,
+    env: usize,
+) -> Result<Args, Refusal>
     requires { Ready form.now room.old m.ch list × Ready form.now room.old m.ch env }
     ensures { ArgsOk form.now room.old room.new m (each_value_b evaluate (items (tree_in form.now room.old list)) (tree_in form.now room.old env) (state m)) result }
 {
@@ -353,19 +351,18 @@ fn eval_each(form: &[u8], room: &mut [u8], m: Meter, list: usize, env: usize) ->
     loop {
         match store::look_node(room, p) {
             Cell::Atom => {
-                return Args::All(v, s);
+                return Ok(Args {
+                    values: v,
+                    meter: s,
+                });
             }
-            Cell::Pair(e, r) => match eval_node(form, room, s, e, env) {
-                Valued::Refused(n) => {
-                    return Args::Refused(n);
-                }
-                Valued::Value(q, t) => {
-                    v = with(v, k, q);
-                    s = t;
-                    k += 1;
-                    p = r;
-                }
-            },
+            Cell::Pair(e, r) => {
+                let value = eval_node(form, room, s, e, env)?;
+                v = with(v, k, value.node);
+                s = value.meter;
+                k += 1;
+                p = r;
+            }
         }
     }
 }
@@ -373,31 +370,36 @@ fn eval_each(form: &[u8], room: &mut [u8], m: Meter, list: usize, env: usize) ->
 // A call of an operator: the argument list and its count first, then all arguments, then what they are. A program under `a` is left
 // to run.
 #[cycle(evaluating)]
-fn call(form: &[u8], room: &mut [u8], m: Meter, op: Operator, list: usize, env: usize) -> Performed
+fn call(
+    form: &[u8],
+    room: &mut [u8],
+    m: Meter,
+    op: Operator,
+    list: usize,
+    env: usize,
+) -> Result<Performed, Refusal>
     requires { Ready form.now room.old m.ch list × Ready form.now room.old m.ch env }
     ensures { PerformedOk form.now room.old room.new m (call_b evaluate (op_of op) (proper_list (tree_in form.now room.old list)) (tree_in form.now room.old env) (state m)) result }
 {
     if !accepts(form, room, op, list) {
-        return Performed::Refused(Refusal::Fails);
+        return Err(Refusal::Fails);
     }
-    match eval_each(form, room, m, list, env) {
-        Args::Refused(e) => Performed::Refused(e),
-        Args::All(v, t) => perform(form, room, t, op, v),
-    }
+    let args = eval_each(form, room, m, list, env)?;
+    perform(form, room, args.meter, op, args.values)
 }
 
 // An expression whose step is taken: a path, a quote, or a call.
 #[cycle(evaluating)]
-fn step(form: &[u8], room: &mut [u8], m: Meter, e: usize, env: usize) -> Performed
+fn step(form: &[u8], room: &mut [u8], m: Meter, e: usize, env: usize) -> Result<Performed, Refusal>
     requires { Ready form.now room.old m.ch e × Ready form.now room.old m.ch env }
     ensures { PerformedOk form.now room.old room.new m (step_b evaluate (tree_in form.now room.old e) (tree_in form.now room.old env) (state m)) result }
 {
     match store::look_node(room, e) {
         Cell::Atom => answered(path_node(form, room, m, e, env)),
         Cell::Pair(o, r) => match head_node(form, room, o) {
-            Head::Quote => Performed::Done(r, m),
+            Head::Quote => Ok(Performed::Done(Valued { node: r, meter: m })),
             Head::Call(op) => call(form, room, m, op, r, env),
-            Head::Other => Performed::Refused(Refusal::NoOperator),
+            Head::Other => Err(Refusal::NoOperator),
         },
     }
 }
@@ -405,7 +407,13 @@ fn step(form: &[u8], room: &mut [u8], m: Meter, e: usize, env: usize) -> Perform
 // The value of the expression e in env. Every expression takes a step as it begins. The loop goes on with the program under an `a`,
 // so that one that calls itself in the last place takes no stack.
 #[cycle(evaluating)]
-pub fn eval_node(form: &[u8], room: &mut [u8], m: Meter, e: usize, env: usize) -> Valued
+pub fn eval_node(
+    form: &[u8],
+    room: &mut [u8],
+    m: Meter,
+    e: usize,
+    env: usize,
+) -> Result<Valued, Refusal>
     requires { Ready form.now room.old m.ch e × Ready form.now room.old m.ch env }
     ensures { ValuedOk form.now room.old room.new m (evaluate (tree_in form.now room.old e) (tree_in form.now room.old env) (state m)) result }
 {
@@ -414,19 +422,15 @@ pub fn eval_node(form: &[u8], room: &mut [u8], m: Meter, e: usize, env: usize) -
     let mut q = env;
     loop {
         if 4096 <= t.steps {
-            return Valued::Refused(Refusal::StepsOut);
+            return Err(Refusal::StepsOut);
         }
-        let c = t.ch;
         let s = Meter {
             steps: t.steps + 1,
-            ch: c,
+            ..t
         };
-        match step(form, room, s, p, q) {
-            Performed::Done(n, u) => {
-                return Valued::Value(n, u);
-            }
-            Performed::Refused(n) => {
-                return Valued::Refused(n);
+        match step(form, room, s, p, q)? {
+            Performed::Done(value) => {
+                return Ok(value);
             }
             Performed::Runs(x, z, u) => {
                 t = u;

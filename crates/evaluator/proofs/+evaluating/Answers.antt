@@ -3,6 +3,7 @@ use native.Mathlib.Omega.{arith}
 use borrow.Author.Rules.{rules}
 use Rattle.store.proofs.Ready.{room}
 use Rattle.evaluator.proofs.Outcomes.{asks_now}
+use Rattle.std.proofs.lemmas.Result.{err_from_is_err_and}
 use Rattle.evaluator.proofs.Each as each
 use Rattle.evaluator.proofs.Cycle as cycle
 use Rattle.evaluator.proofs.+evaluating.Goals as goal
@@ -17,13 +18,13 @@ pub call-eval_each-requires : goal.call-eval_each-requires
 call-eval_each-requires t c = (omega arith, search rules)
 
 pub call-perform-requires : goal.call-perform-requires
-call-perform-requires t c = search cycle.call_nodes
+call-perform-requires t c = search (cycle.call_nodes, c.in_ok-args.was)
 
-pub call-returns-in-Refused : goal.call-returns-in-Refused
-call-returns-in-Refused t c = search cycle.call_stopped
+pub call-returns-in_err-args : goal.call-returns-in_err-args
+call-returns-in_err-args t c = search (rules, cycle.call_stopped, c.in_err-args.was)
 
-pub call-returns-in-All : goal.call-returns-in-All
-call-returns-in-All t c = search cycle.call_performs
+pub call-returns : goal.call-returns
+call-returns t c = search (cycle.call_performs, c.in_ok-args.was)
 
 pub eval_each-loop-e-init : goal.eval_each-loop-e-init
 eval_each-loop-e-init t c = search each.each_starts
@@ -40,17 +41,14 @@ eval_each-returns-in-Atom t c = search each.each_ends
 pub eval_each-eval_node-requires : goal.eval_each-eval_node-requires
 eval_each-eval_node-requires t c = (search each.each_down, (search each.each_element, search each.each_env))
 
-pub eval_each-shape_of-room-in-Refused : goal.eval_each-shape_of-room-in-Refused
-eval_each-shape_of-room-in-Refused t c = search each.each_length
-
-pub eval_each-returns-in-Refused : goal.eval_each-returns-in-Refused
-eval_each-returns-in-Refused t c = search each.each_refused
+pub eval_each-returns-in_err-value-in-Pair : goal.eval_each-returns-in_err-value-in-Pair
+eval_each-returns-in_err-value-in-Pair t c = let p = err_from_is_err_and c.from_residual.result c.from_residual.ensures.1 in rw (p.1, p.2) (search (each.each_refused, c.in_err-value-in-Pair.was))
 
 pub eval_each-loop-e-smaller : goal.eval_each-loop-e-smaller
 eval_each-loop-e-smaller t c = search each.each_falls
 
 pub eval_each-loop-e-preserved : goal.eval_each-loop-e-preserved
-eval_each-loop-e-preserved t c = search each.each_again
+eval_each-loop-e-preserved t c = search (each.each_again, c.in_ok-value-in-Pair.was)
 
 pub eval_node-loop-t-init : goal.eval_node-loop-t-init
 eval_node-loop-t-init t c = search asks_now
@@ -68,19 +66,16 @@ pub eval_node-shape_of-room-in-Done : goal.eval_node-shape_of-room-in-Done
 eval_node-shape_of-room-in-Done t c = search cycle.node_length
 
 pub eval_node-returns-in-Done : goal.eval_node-returns-in-Done
-eval_node-returns-in-Done t c = search cycle.node_value
+eval_node-returns-in-Done t c = search (cycle.node_value, c.in_ok-value.was)
 
-pub eval_node-shape_of-room-in-Refused : goal.eval_node-shape_of-room-in-Refused
-eval_node-shape_of-room-in-Refused t c = search cycle.node_length
-
-pub eval_node-returns-in-Refused : goal.eval_node-returns-in-Refused
-eval_node-returns-in-Refused t c = search cycle.node_refused
+pub eval_node-returns-in_err-value : goal.eval_node-returns-in_err-value
+eval_node-returns-in_err-value t c = search (rules, cycle.node_refused, c.in_err-value.was)
 
 pub eval_node-loop-t-smaller : goal.eval_node-loop-t-smaller
-eval_node-loop-t-smaller t c = search cycle.node_falls
+eval_node-loop-t-smaller t c = search (cycle.node_falls, c.in_ok-value.was)
 
 pub eval_node-loop-t-preserved : goal.eval_node-loop-t-preserved
-eval_node-loop-t-preserved t c = search cycle.node_again
+eval_node-loop-t-preserved t c = search (cycle.node_again, c.in_ok-value.was)
 
 pub step-look_node-requires : goal.step-look_node-requires
 step-look_node-requires t c = search room

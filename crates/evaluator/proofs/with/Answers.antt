@@ -2,14 +2,14 @@
 use Rattle.evaluator.proofs.Heads as heads
 use Rattle.evaluator.proofs.with.Goals as goal
 
-pub returns-then-k-eq0 : goal.returns-then-k-eq0
-returns-then-k-eq0 c = search heads.with_0
+pub returns-in-0 : goal.returns-in-0
+returns-in-0 c = search heads.with_0
 
-pub returns-then-k-eq1 : goal.returns-then-k-eq1
-returns-then-k-eq1 c = search heads.with_1
+pub returns-in-1 : goal.returns-in-1
+returns-in-1 c = search heads.with_1
 
-pub returns-then-k-eq2 : goal.returns-then-k-eq2
-returns-then-k-eq2 c = search heads.with_2
+pub returns-in-2 : goal.returns-in-2
+returns-in-2 c = search heads.with_2
 
-pub returns : goal.returns
-returns c = search heads.with_3
+pub returns-in_default : goal.returns-in_default
+returns-in_default c = search heads.with_3
