@@ -1,34 +1,42 @@
 -- The loops of casts.rs: what each has done at index i, at its start, after one turn more, and at its end. Assumes nothing.
-use Prim.Native.Nat.{ℕ, suc, ◌+◌, ◌-◌, ◌*◌, ◌^◌, ◌≤◌, ◌<◌}
+use Prim.Native.Nat.{ℕ, ◌+◌, ◌-◌, ◌*◌, ◌^◌, ◌≤◌, ◌<◌}
 use mathlib.Core.Path.{◌≡◌, refl, sym, ◌∙◌, ap}
-use mathlib.Core.List.{List, [], ◌∷◌}
-use mathlib.Core.Bool.{true, false, and-false}
-use native.Mathlib.Nat.{le_of_eq}
-use native.Mathlib.Numerals.{add-one}
+use mathlib.Core.List.{List, [], ◌∷◌, ◌++◌, append-nil}
+use mathlib.Core.Bool.{Bool, true, false, and-false}
 use native.Mathlib.Omega.{arith}
 use borrow.Author.Tests.{le-leb, lt-leb, eq-eqb, ne_eqb}
-use lib.Dec.{leb, eqb}
-use lib.ListN.{length, take, drop, get_or, set, replicate, length-set, length-drop}
-use lib.Seq.{drop-cons, drop-drop, take_all, take-suc}
+use lib.Dec.{eqb}
+use lib.ListN.{length, take, drop, get_or, set, replicate, length-set, length-drop, length-append, drop_of_length-le}
+use lib.Seq.{drop-drop, take_all, length-take-le}
+use borrow.Rule.Slice.PartMut.{put_mid}
+use Rattle.std.specs.Bool.{Decides}
+use Rattle.std.specs.Cmp.Lexicographic.{pointwise}
+use Rattle.std.proofs.lemmas.Bool.Decides.{Decides-eqb}
+use Rattle.std.proofs.lemmas.Slice.Eq.{slice_eq-Decides}
+use Rattle.meaning.proofs.Tests.{on_bool, not_false}
 use Rattle.meaning.specs.Number.{number, number_from, bigint_from_bytes, shortest_signed, negative, bytes_of}
 use Rattle.paths.specs.Fours.{turned}
 use Rattle.paths.specs.Wide.{Wide, Zeros, Shortest, Holds}
-use Rattle.paths.specs.declared.casts.Number.{Number}
 use Rattle.paths.proofs.FourLaws.{bigint_turned, length_turned}
-use Rattle.paths.proofs.NumberLaws.{Bytes, number_lt, upto_suc, upto_set, upto_all, upto_zeros, split_at}
+use Rattle.paths.proofs.NumberLaws.{Bytes, number_lt, upto_suc, upto_set, upto_all, upto_zeros, split_at, number_append}
 use Rattle.paths.proofs.ShortestLaws.{number_bytes_of, zeros_number, no_higher}
 
 -- ---- negative
 
-pub negative_none : (b : List ℕ) → length b ≡ 0 → false ≡ negative b
+pub negative_none : (b : List ℕ) → length b < 1 → false ≡ negative b
 unfolding negative
 negative_none [] h = refl
 negative_none (x ∷ b) h = absurd (omega arith)
 
-pub negative_top : (b : List ℕ) → (length b ≡ 0 → ⊥) → leb 128 (get_or b 0 0) ≡ negative b
+pub negative_top : (b : List ℕ) → 1 ≤ length b → 128 ≤ get_or b 0 0 → true ≡ negative b
 unfolding negative
-negative_top [] h = absurd (h refl)
-negative_top (x ∷ b) h = refl
+negative_top [] h k = absurd (omega arith)
+negative_top (x ∷ b) h k = sym (le-leb 128 x k)
+
+pub negative_low : (b : List ℕ) → get_or b 0 0 < 128 → false ≡ negative b
+unfolding negative
+negative_low [] k = refl
+negative_low (x ∷ b) k = sym (lt-leb 128 x k)
 
 -- ---- placed
 
@@ -66,6 +74,18 @@ placing_all {t} {r} {base} {i} d h =
       value = sym (upto_all r 65 d.wide) ∙ sym (ap (λ n. number (take n r)) a) ∙ d.done ∙ ap (λ n. number (take n t)) z ∙ upto_all t (length t) refl;
     }
 
+-- bytes are placed at once
+pub placed_at : (b : List ℕ) {s : List ℕ} → s ≡ b → length b ≤ 65 → Wide (number b) (put_mid (65 - length b) (65 - (65 - length b)) (replicate 65 0) s)
+placed_at b {s} e h =
+    let i : 65 - (65 - length b) ≡ length b = omega arith in
+    let d : drop (length b) (drop (65 - length b) zeros) ≡ [] = drop_of_length-le (drop (65 - length b) zeros) (omega (arith, length-drop (65 - length b) zeros)) in
+    let l : length (take (65 - length b) zeros ++ b) ≡ 65 = length-append (take (65 - length b) zeros) b ∙ omega (arith, length-take-le (65 - length b) zeros (omega arith)) in
+    rw (e, i, d, append-nil b)
+    (record { wide = l; value = number_append (take (65 - length b) zeros) b ∙ rw (upto_zeros (65 - length b) 65) (omega arith) })
+  where
+    zeros : List ℕ
+    zeros = replicate 65 0
+
 pub fours_none : (b : List ℕ) → length b ≤ 65 → Placing (turned b) (replicate 65 0) (65 - length b) 0
 fours_none b h = placing_none (length_turned b) h
 
@@ -88,9 +108,6 @@ measured {bs} {i} {z} d s w =
     let e : 65 - (65 - i - z) ≡ i + z = omega arith in
     record { wide = w; value = refl; within = omega arith; shown = rw (e, ← drop-drop z i bs) (p.shown ∙ ap bytes_of (sym (zeros_number d))) }
 
-pub measured_as : {v : ℕ} {bs : List ℕ} {n : Number} → Wide v bs → Holds (number bs) n → Holds v n
-measured_as w h = rw w.value at h
-
 -- a number of n bytes has zeros before these
 pub wide_zeros : {v n : ℕ} {r : List ℕ} → Wide v r → v < 256 ^ n → n ≤ 65 → Zeros r (65 - n)
 wide_zeros {v} {n} {r} w h l =
@@ -104,78 +121,46 @@ placed_zeros b w h l = wide_zeros w (number_lt b h) l
 
 -- ---- same_number
 
--- the first i of the shortest bytes are the same
-pub record Alike (x y : List ℕ) (i : ℕ) : Type 0 where
-  pub within : i ≤ length x
-  pub done : take i x ≡ take i y
-
-pub alike_none : {x y : List ℕ} → Alike x y 0
-alike_none = record { within = omega arith; done = refl }
-
-pub alike_more : {x y : List ℕ} {i : ℕ} → Alike x y i → i < length x → length x ≡ length y → get_or x i 0 ≡ get_or y i 0 → Alike x y (i + 1)
-alike_more {x} {y} {i} d h l e = record { within = omega arith; done = rw (add-one, take-suc x i 0 h, take-suc y i 0 (omega arith), d.done, e) }
-
-module _ (a b : List ℕ) {x y : List ℕ} (u : x ≡ bytes_of (number a)) (v : y ≡ bytes_of (number b)) where
-  pub alike_all : {i : ℕ} → Alike x y i → length x ≤ i → length x ≡ length y → true ≡ eqb (number a) (number b)
-  alike_all {i} d h l =
-      let e : x ≡ y = sym (take_all i x h) ∙ d.done ∙ take_all i y (omega arith) in
-      sym (eq-eqb (number a) (number b) (sym (number_bytes_of (number a)) ∙ ap number (sym u ∙ e ∙ v) ∙ number_bytes_of (number b)))
-
-  differ : (x ≡ y → ⊥) → false ≡ eqb (number a) (number b)
-  differ h = sym (ne_eqb (number a) (number b) (λ e. h (u ∙ ap bytes_of e ∙ sym v)))
-
-  pub alike_not : {i : ℕ} → Alike x y i → (get_or x i 0 ≡ get_or y i 0 → ⊥) → false ≡ eqb (number a) (number b)
-  alike_not {i} d h = differ (λ e. h (ap (λ l. get_or l i 0) e))
-
-  pub alike_short : (length x ≡ length y → ⊥) → false ≡ eqb (number a) (number b)
-  alike_short h = differ (λ e. h (ap length e))
+pub same_bytes : (a b : List ℕ) {x y : List ℕ} {r : Bool} → r ≡ pointwise eqb x y → x ≡ bytes_of (number a) → y ≡ bytes_of (number b) → r ≡ eqb (number a) (number b)
+same_bytes a b {x} {y} {r} e u v =
+    let (same, differ) : Decides r (x ≡ y) = slice_eq-Decides Decides-eqb x y r e in
+    on_bool r
+    (λ t. t ∙ sym (eq-eqb (number a) (number b) (sym (number_bytes_of (number a)) ∙ ap number (sym u ∙ same t ∙ v) ∙ number_bytes_of (number b))))
+    (λ f. f ∙ sym (ne_eqb (number a) (number b) (λ n. not_false (sym f ∙ differ (u ∙ ap bytes_of n ∙ sym v)))))
 
 -- ---- shortest_signed
 
-pub record Shrinking (b : List ℕ) (i : ℕ) : Type 0 where
-  pub within : i ≤ length b
-  pub same : shortest_signed (drop i b) ≡ shortest_signed b
-
-pub shrinking_none : {b : List ℕ} → Shrinking b 0
-shrinking_none = record { within = omega arith; same = refl }
-
-signed_again : (x y : ℕ) (bs : List ℕ) → x ≡ 255 → 128 ≤ y → shortest_signed (x ∷ y ∷ bs) ≡ shortest_signed (y ∷ bs)
+pub shrinks : (s : List ℕ) (b : List ℕ) → 2 ≤ length s → get_or s 0 0 ≡ 255 → 128 ≤ get_or s 1 0 → shortest_signed s ≡ shortest_signed b → shortest_signed (take (length s - 1) (drop 1 s)) ≡ shortest_signed b
 unfolding shortest_signed
-signed_again x y bs h k = rw (eq-eqb x 255 h, le-leb 128 y k, shortest_signed)
+shrinks [] b l h k e = absurd (omega arith)
+shrinks (x ∷ []) b l h k e = absurd (omega arith)
+shrinks (x ∷ y ∷ s) b l h k e =
+    rw (take_all (length (x ∷ y ∷ s) - 1) (y ∷ s) (omega arith)) (rw (eq-eqb x 255 h, le-leb 128 y k, shortest_signed) at e)
 
-first_differs : (x y : ℕ) (bs : List ℕ) → (x ≡ 255 → ⊥) → shortest_signed (x ∷ y ∷ bs) ≡ x ∷ y ∷ bs
+stays_first : (s : List ℕ) → (get_or s 0 0 ≡ 255 → ⊥) → s ≡ shortest_signed s
 unfolding shortest_signed
-first_differs x y bs h = rw (ne_eqb x 255 h, shortest_signed)
+stays_first [] h = refl
+stays_first (x ∷ []) h = refl
+stays_first (x ∷ y ∷ s) h = rw (ne_eqb x 255 h, shortest_signed)
 
-sign_differs : (x y : ℕ) (bs : List ℕ) → y < 128 → shortest_signed (x ∷ y ∷ bs) ≡ x ∷ y ∷ bs
+stays_sign : (s : List ℕ) → get_or s 1 0 < 128 → s ≡ shortest_signed s
 unfolding shortest_signed
-sign_differs x y bs h = rw (lt-leb 128 y h, and-false (eqb x 255), shortest_signed)
+stays_sign [] h = refl
+stays_sign (x ∷ []) h = refl
+stays_sign (x ∷ y ∷ s) h = rw (lt-leb 128 y h, and-false (eqb x 255), shortest_signed)
 
-signed_short : (bs : List ℕ) → length bs ≤ 1 → shortest_signed bs ≡ bs
+stays_short : (s : List ℕ) → length s < 2 → s ≡ shortest_signed s
 unfolding shortest_signed
-signed_short [] h = refl
-signed_short (x ∷ []) h = refl
-signed_short (x ∷ y ∷ bs) h = absurd (omega arith)
+stays_short [] h = refl
+stays_short (x ∷ []) h = refl
+stays_short (x ∷ y ∷ s) h = absurd (omega arith)
 
-module _ {b : List ℕ} {i : ℕ} (d : Shrinking b i) where
-  at_two : i + 1 < length b → drop i b ≡ get_or b i 0 ∷ get_or b (i + 1) 0 ∷ drop (suc (i + 1)) b
-  at_two h = drop-cons b i 0 (omega arith) ∙ rw (← add-one i, drop-cons b (i + 1) 0 h)
+module _ {s : List ℕ} (b : List ℕ) (e : shortest_signed s ≡ shortest_signed b) where
+  pub shrunk_first : (get_or s 0 0 ≡ 255 → ⊥) → s ≡ shortest_signed b
+  shrunk_first h = stays_first s h ∙ e
 
-  -- the part from i on, as the code lends it
-  lent : drop i b ≡ shortest_signed b → take (length b - i) (drop i b) ≡ shortest_signed b
-  lent e = take_all (length b - i) (drop i b) (le_of_eq (length-drop i b)) ∙ e
+  pub shrunk_sign : get_or s 1 0 < 128 → s ≡ shortest_signed b
+  shrunk_sign h = stays_sign s h ∙ e
 
-  pub shrinking_more : i + 1 < length b → get_or b i 0 ≡ 255 → 128 ≤ get_or b (i + 1) 0 → Shrinking b (i + 1)
-  shrinking_more h e k = record {
-    within = omega arith;
-    same = ap shortest_signed (drop-cons b (i + 1) 0 h) ∙ sym (signed_again (get_or b i 0) (get_or b (i + 1) 0) (drop (suc (i + 1)) b) e k) ∙ sym (ap shortest_signed (at_two h)) ∙ d.same;
-  }
-
-  pub shrunk_first : i + 1 < length b → (get_or b i 0 ≡ 255 → ⊥) → take (length b - i) (drop i b) ≡ shortest_signed b
-  shrunk_first h e = lent (at_two h ∙ sym (first_differs (get_or b i 0) (get_or b (i + 1) 0) (drop (suc (i + 1)) b) e) ∙ sym (ap shortest_signed (at_two h)) ∙ d.same)
-
-  pub shrunk_sign : i + 1 < length b → get_or b (i + 1) 0 < 128 → take (length b - i) (drop i b) ≡ shortest_signed b
-  shrunk_sign h k = lent (at_two h ∙ sym (sign_differs (get_or b i 0) (get_or b (i + 1) 0) (drop (suc (i + 1)) b) k) ∙ sym (ap shortest_signed (at_two h)) ∙ d.same)
-
-  pub shrunk_short : length b ≤ i + 1 → take (length b - i) (drop i b) ≡ shortest_signed b
-  shrunk_short h = let l = length-drop i b in lent (sym (signed_short (drop i b) (omega arith)) ∙ d.same)
+  pub shrunk_short : length s < 2 → s ≡ shortest_signed b
+  shrunk_short h = stays_short s h ∙ e

@@ -8,7 +8,7 @@ use native.Mathlib.Numerals.{add-one}
 use native.Mathlib.Omega.{arith}
 use borrow.Author.Tests.{eqb-true, eqb-false}
 use lib.Arith.{bin_ind, digits_div, digits_mod}
-use lib.Bits.{bit_and, bit_or, and_mask, mask_lt, or_shifted}
+use lib.Bits.{bit_and, bit_or, and_mask, or_shifted}
 use lib.Dec.{eqb}
 use lib.ListN.{length, take, drop, get_or, set, length-drop, length-set}
 use lib.Pow.{mod-pow-add, pow-add, pow_pos, shl_exact}
@@ -72,18 +72,12 @@ composed_at w x l q k h =
 one_moved : (n : ℕ) → n < 8 → 1 * 2 ^ n % 2 ^ 16 ≡ 2 ^ n
 one_moved n h = shl_exact 1 n 16 (omega arith) (omega arith) ∙ omega arith
 
-pub some_moved : (n : ℕ) → n < 8 → 1 ≤ 1 * 2 ^ n % 2 ^ 16
-some_moved n h = let p = pow_pos n in let e = one_moved n h in omega arith
-
 pub moved_in : (q x n : ℕ) → n < 8 → Fits w8 q → bit_or (q * 2 ^ n % 2 ^ 16) (bit_and x (1 * 2 ^ n % 2 ^ 16 - 1)) ≡ q * 2 ^ n + x % 2 ^ n
 moved_in q x n h f =
     let e : q * 2 ^ n % 2 ^ 16 ≡ q * 2 ^ n = shl_exact 8 n 16 f.fits (omega arith) in
     ap₂ (λ a m. bit_or a (bit_and x (m - 1))) e (one_moved n h) ∙ ap (bit_or (q * 2 ^ n)) (and_mask x n) ∙ or_shifted q n (x % 2 ^ n) (mod-lt x (pow_pos n))
 
 -- ---- compose_paths
-
-pub low_byte : (both : ℕ) → Fits w8 (bit_and both 255)
-low_byte both = record { fits = mask_lt both 8 }
 
 -- a number without bytes is 0
 none_held : {p : Number} → Holds (number p.bytes) p → p.len ≡ 0 → number p.bytes ≡ 0
@@ -201,10 +195,8 @@ module _ {p : Number} (h : Holds (number p.bytes) p) (o : p.len ≡ 0 → ⊥) w
     pub two_zeros : (x y : ℕ) → Zeros (twice bs at x y) (at - 1)
     two_zeros x y = twice_zeros bs at x y h.wide (shortest_zeros shortest) (some_before l) before_end
 
-    pub two_composed : (q both : ℕ) {s : ℕ} {n : Number} → both ≡ q * 2 ^ s + top % 2 ^ s → s ≡ length (turns top) → Holds (number (twice bs at (bit_and both 255) (both / 2 ^ 8))) n
+    pub two_composed : (q both : ℕ) {s : ℕ} {n : Number} → both ≡ q * 2 ^ s + top % 2 ^ s → s ≡ length (turns top) → both < 65536 → Holds (number (twice bs at (both % 256) (both / 256 % 256))) n
         → Holds (compose_paths (number bs) q) n
-    two_composed q both {s} e f n =
-        let b : bit_and both 255 ≡ both % 2 ^ 8 = and_mask both 8 in
-        let g : both / 2 ^ 8 * 256 + bit_and both 255 ≡ q * 2 ^ length (turns top) + top % 2 ^ length (turns top) =
-        ap (λ x. both / 2 ^ 8 * 256 + x) b ∙ (let c : both / 2 ^ 8 * 256 + both % 2 ^ 8 ≡ both = omega arith in c) ∙ e ∙ ap (λ k. q * 2 ^ k + top % 2 ^ k) f in
-        rw (number_twice bs at (bit_and both 255) (both / 2 ^ 8) h.wide (shortest_zeros shortest) (some_before l) before_end _ g ∙ sym (composed_by_top q)) at n
+    two_composed q both {s} e f m n =
+        let c : both / 256 % 256 * 256 + both % 256 ≡ both = omega arith in
+        rw (number_twice bs at (both % 256) (both / 256 % 256) h.wide (shortest_zeros shortest) (some_before l) before_end _ (c ∙ e ∙ ap (λ k. q * 2 ^ k + top % 2 ^ k) f) ∙ sym (composed_by_top q)) at n

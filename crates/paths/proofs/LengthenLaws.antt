@@ -140,7 +140,3 @@ pub positive_longer : (b s : List ℕ) (q : ℕ) (n p : Number) → Holds (compo
 positive_longer b s q n p h i e k =
     let z : number n.bytes ≡ node_path_index b = i.value ∙ ap number e ∙ number_bytes_of (number b) ∙ sym (index_positive b refl k) in
     longer_is b q (record { path = p; misread = false }) (record { path = rw (← z) h; misread = sym (misread_no b k) })
-
--- the test as the code has it
-pub sign : (b : List ℕ) (r d : Bool) → r ≡ negative b → r ≡ d → negative b ≡ d
-sign b r d e i = sym e ∙ i

@@ -2,12 +2,16 @@
 use Prim.Native.Nat.{ℕ, zero, suc, ◌+◌, ◌-◌, ◌*◌, ◌/◌, ◌%◌, ◌^◌, ◌≤◌, ◌<◌}
 use mathlib.Core.Path.{◌≡◌, refl, sym, ◌∙◌, ap, subst}
 use mathlib.Core.List.{List, [], ◌∷◌, ◌++◌, append-nil}
-use native.Mathlib.Nat.{le_of_eq, one-le-pow}
+use native.Mathlib.Nat.{one-le-pow}
+use native.Mathlib.Numerals.{add-one}
 use native.Mathlib.Omega.{arith}
 use borrow.Author.Tests.{eqb-true, eqb-false, eq-eqb, ne_eqb}
 use lib.Dec.{leb, eqb}
 use lib.ListN.{length, take, drop, get_or, length-drop}
-use lib.Seq.{drop-cons, drop-length, take_all}
+use lib.Seq.{drop-cons, drop-length}
+use Rattle.std.specs.List.{AllWithin, HoldsAt}
+use Rattle.std.specs.Option.{MatchOption, unwrap_or}
+use Rattle.std.specs.Prelude.{Option, None, Some}
 use Rattle.meaning.proofs.Tests.{on_bool, leb_yes, leb_no}
 use Rattle.meaning.specs.Number.{number, number_from, bytes_onto, bytes_of}
 use Rattle.paths.specs.Wide.{Zeros, Shortest, Holds}
@@ -79,6 +83,17 @@ zeros_all {b} {i} d h =
     let z : i ≡ length b = let y = d.within in omega arith in
     let e : drop i b ≡ [] = ap (λ n. drop n b) z ∙ drop-length b in
     record { within = d.within; shown = e ∙ sym (ap bytes_of (zeros_number d ∙ ap number e)) }
+
+zeros_upto : (b : List ℕ) (i : ℕ) → i ≤ length b → AllWithin (λ x. x ≡ 0) b 0 i → Zeros b i
+zeros_upto b zero h z = zeros_none
+zeros_upto b (suc i) h z = rw (← add-one i) (zeros_more (zeros_upto b i (omega arith) (λ k d l m. z k d l (omega arith))) h (z i 0 (omega arith) (omega arith)))
+
+-- where the first byte stands that is not 0
+pub first_place : (b : List ℕ) (r : Option ℕ)
+    → MatchOption r (AllWithin (λ x. x ≡ 0) b 0 (length b)) (λ i. (i < length b) × HoldsAt (λ x. x ≡ 0 → ⊥) b i × AllWithin (λ x. x ≡ 0) b 0 i)
+    → Bytes b → Shortest b (unwrap_or r (length b))
+first_place b None z k = zeros_all (zeros_upto b (length b) (omega arith) z) (omega arith)
+first_place b (Some i) z k = let h : i < length b = z.0 in zeros_found (zeros_upto b i (omega arith) z.2) h (z.1 0) k
 
 -- they are read back as the number
 back_from : (k n : ℕ) (bs : List ℕ) → n ≤ k → number_from 0 (bytes_onto k n bs) ≡ number_from n bs
@@ -152,10 +167,6 @@ shortest_some {b} {z} s e =
     let n : length (drop z b) ≡ 0 = ap length (s.shown ∙ ap bytes_of e) in
     let w = s.within in
     omega arith
-
--- the part from z on, as the code lends it
-pub shortest_lent : {b : List ℕ} {z : ℕ} → Shortest b z → take (length b - z) (drop z b) ≡ bytes_of (number b)
-shortest_lent {b} {z} s = take_all (length b - z) (drop z b) (le_of_eq (length-drop z b)) ∙ s.shown
 
 pub zero_test : {b : List ℕ} {z : ℕ} → Shortest b z → eqb z (length b) ≡ eqb (number b) 0
 zero_test {b} {z} s =

@@ -34,9 +34,9 @@ module _ (b : List ℕ) {t : Bool} (e : t ≡ negative b) where
   unfolding sub_turns number_from_u8
   sub_positive h = rw (sym e ∙ h, number_from_u8, sub_turns)
 
-  pub low_negative : t ≡ true → true ≡ is_low b
+  pub low_negative : t ≡ true → t ≡ is_low b
   unfolding is_low number_from_u8
-  low_negative h = rw (sym e ∙ h, number_from_u8, is_low)
+  low_negative h = h ∙ rw (sym e ∙ h, number_from_u8, is_low)
 
   pub low_positive : {r : Bool} → t ≡ false → r ≡ eqb (number b) 0 → r ≡ is_low b
   unfolding is_low number_from_u8

@@ -190,6 +190,3 @@ top_some {x} h f =
     let (j, e, l, m) = leading_top 8 x (omega arith) f.fits in
     let c : length (turns x) ≡ j = count_top x j l m in
     omega arith
-
-pub top_within : {x : ℕ} → (x ≡ 0 → ⊥) → Fits w8 x → count_leading_zeros 8 x ≤ 7
-top_within {x} h f = let (j, e, l, m) = leading_top 8 x (omega arith) f.fits in omega arith

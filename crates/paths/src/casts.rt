@@ -16,24 +16,14 @@ pub struct Number {
 pub(crate) fn negative(b: &[u8]) -> bool
     ensures { result ≡ negative b.now }
 {
-    if b.len() == 0 {
-        return false;
-    }
-    128 <= b[0]
+    matches!(b, [128..=255, ..])
 }
 
 // Where the shortest unsigned bytes start: how many zeros stand in front.
 pub(crate) fn zeros(b: &[u8]) -> usize
     ensures { Shortest b.now result }
 {
-    let mut i: usize = 0;
-    while i < b.len() {
-        if b[i] != 0 {
-            return i;
-        }
-        i += 1;
-    }
-    i
+    b.iter().position(|x| *x != 0).unwrap_or(b.len())
 }
 
 // The unsigned number is 0.
@@ -47,27 +37,14 @@ pub fn is_zero(b: &[u8]) -> bool
 pub fn bigint_to_bytes_unsigned(b: &[u8]) -> &[u8]
     ensures { result.now ≡ bytes_of (number b.now) }
 {
-    let z = zeros(b);
-    &b[z..]
+    &b[zeros(b)..]
 }
 
 // Both have the same unsigned number: their shortest bytes are the same.
-pub(crate) fn same_number<'a>(a: &'a [u8], b: &'a [u8]) -> bool
+pub(crate) fn same_number(a: &[u8], b: &[u8]) -> bool
     ensures { result ≡ eqb (number a.now) (number b.now) }
 {
-    let x = bigint_to_bytes_unsigned(a);
-    let y = bigint_to_bytes_unsigned(b);
-    if x.len() != y.len() {
-        return false;
-    }
-    let mut i: usize = 0;
-    while i < x.len() {
-        if x[i] != y[i] {
-            return false;
-        }
-        i += 1;
-    }
-    true
+    bigint_to_bytes_unsigned(a) == bigint_to_bytes_unsigned(b)
 }
 
 // 65 bytes, with the count of their number's shortest ones. These start at index `from` or later.
@@ -75,11 +52,8 @@ pub(crate) fn measured(bytes: [u8; 65], from: usize) -> Number
     requires { Zeros bytes from }
     ensures { Holds (number bytes) result }
 {
-    let z = zeros(&bytes[from..]);
-    Number {
-        bytes: bytes,
-        len: 65 - from - z,
-    }
+    let len = 65 - from - zeros(&bytes[from..]);
+    Number { bytes, len }
 }
 
 // The bytes at the right end of 65.
@@ -87,13 +61,8 @@ pub(crate) fn placed(b: &[u8]) -> [u8; 65]
     requires { length b.now ≤ 65 }
     ensures { Wide (number b.now) result }
 {
-    let mut r = [0u8; 65];
-    let base = 65 - b.len();
-    let mut i: usize = 0;
-    while i < b.len() {
-        r[base + i] = b[i];
-        i += 1;
-    }
+    let mut r = [0; 65];
+    r[65 - b.len()..].copy_from_slice(b);
     r
 }
 
@@ -109,17 +78,11 @@ pub fn unsigned(b: &[u8]) -> Number
 pub(crate) fn shortest_signed(b: &[u8]) -> &[u8]
     ensures { result.now ≡ shortest_signed b.now }
 {
-    let mut i: usize = 0;
-    while i + 1 < b.len() {
-        if b[i] != 255 {
-            return &b[i..];
-        }
-        if b[i + 1] < 128 {
-            return &b[i..];
-        }
-        i += 1;
+    let mut s = b;
+    while let [255, 128..=255, ..] = s {
+        s = &s[1..];
     }
-    &b[i..]
+    s
 }
 
 // The byte that `get_u32` brings to index i: it takes each group of four, counted from the end, low byte first.
@@ -141,12 +104,10 @@ pub(crate) fn bigint_from_bytes(b: &[u8]) -> [u8; 65]
     requires { length b.now ≤ 65 }
     ensures { Wide (bigint_from_bytes b.now) result }
 {
-    let mut r = [0u8; 65];
+    let mut r = [0; 65];
     let base = 65 - b.len();
-    let mut i: usize = 0;
-    while i < b.len() {
+    for i in 0..b.len() {
         r[base + i] = turned_at(b, i);
-        i += 1;
     }
     r
 }

@@ -24,7 +24,7 @@ fn joined(q: u8, x: u8, n: usize) -> u16
     ensures { result ≡ q * 2 ^ n + x % 2 ^ n }
 {
     let mask = (1u16 << n) - 1;
-    ((q as u16) << n) | ((x as u16) & mask)
+    (u16::from(q) << n) | (u16::from(x) & mask)
 }
 
 // path_1 is shifted left by the number of bits below the top bit of path_0, and path_0's lower bits go in. The length says which byte has
@@ -34,15 +34,14 @@ pub fn compose_paths(path_0: Number, path_1: u8) -> Number
     requires bytes_bound { number path_0.bytes < 256 ^ 64 }
     ensures { Holds (compose_paths (number path_0.bytes) path_1) result }
 {
-    let mut bytes = path_0.bytes;
-    let len = path_0.len;
+    let Number { mut bytes, len } = path_0;
     if len == 0 {
         return unsigned(&[path_1]);
     }
     let at = 65 - len;
     let top = bytes[at];
-    let both = joined(path_1, top, below_top(top));
-    bytes[at] = (both & 255) as u8;
-    bytes[at - 1] = (both >> 8) as u8;
+    let [over, here] = joined(path_1, top, below_top(top)).to_be_bytes();
+    bytes[at] = here;
+    bytes[at - 1] = over;
     measured(bytes, at - 1)
 }

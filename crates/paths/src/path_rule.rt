@@ -20,13 +20,12 @@ pub struct Lengthened {
 fn over_long() -> Lengthened
     ensures { 64 < result.path.len }
 {
-    let bytes = [255u8; 65];
     let path = Number {
-        bytes: bytes,
+        bytes: [255; 65],
         len: 65,
     };
     Lengthened {
-        path: path,
+        path,
         misread: false,
     }
 }
@@ -41,13 +40,9 @@ fn longer_negative(b: &[u8], q: u8) -> Lengthened
         return over_long();
     }
     let index = node_path_index(s);
-    let read = index.bytes;
-    let misread = !same_number(&read, b);
+    let misread = !same_number(&index.bytes, b);
     let path = compose_paths(index, q);
-    Lengthened {
-        path: path,
-        misread: misread,
-    }
+    Lengthened { path, misread }
 }
 
 // From any other atom, whose index is its unsigned number.
@@ -61,7 +56,7 @@ fn longer_positive(b: &[u8], q: u8) -> Lengthened
     }
     let path = compose_paths(unsigned(s), q);
     Lengthened {
-        path: path,
+        path,
         misread: false,
     }
 }
@@ -72,7 +67,8 @@ pub fn lengthen(b: &[u8], q: u8) -> Lengthened
     ensures { Lengthens b.now q result }
 {
     if negative(b) {
-        return longer_negative(b, q);
+        longer_negative(b, q)
+    } else {
+        longer_positive(b, q)
     }
-    longer_positive(b, q)
 }

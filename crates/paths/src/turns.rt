@@ -10,9 +10,10 @@ pub(crate) fn below_top(x: u8) -> usize
     ensures { result ≡ length (turns x) }
 {
     if x == 0 {
-        return 0;
+        0
+    } else {
+        (7 - x.leading_zeros()) as usize
     }
-    (7 - u8::leading_zeros(x)) as usize
 }
 
 // How many turns the unsigned number has: the bits below its top bit.
@@ -49,18 +50,12 @@ pub fn sub_turn_count(b: &[u8]) -> usize
     requires { length b.now < 2 ^ 60 }
     ensures { result ≡ length (sub_turns b.now) }
 {
-    if negative(b) {
-        return 0;
-    }
-    turn_count(b)
+    if negative(b) { 0 } else { turn_count(b) }
 }
 
 // The signed number is 0 or less.
 pub fn is_low(b: &[u8]) -> bool
     ensures { result ≡ is_low b.now }
 {
-    if negative(b) {
-        return true;
-    }
-    is_zero(b)
+    negative(b) || is_zero(b)
 }

@@ -4,6 +4,3 @@ use Rattle.paths.proofs.casts.unsigned.Goals as goal
 
 pub measured-requires : goal.measured-requires
 measured-requires c = search laws.placed_zeros
-
-pub returns : goal.returns
-returns c = search laws.measured_as

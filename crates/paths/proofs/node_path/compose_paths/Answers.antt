@@ -5,11 +5,8 @@ use Rattle.paths.proofs.node_path.compose_paths.Goals as goal
 pub returns-then-len-eq0 : goal.returns-then-len-eq0
 returns-then-len-eq0 c = search laws.composed_none
 
-pub joined-both-requires : goal.joined-both-requires
-joined-both-requires c = search laws.top_few
-
-pub overflow_cast-bytes : goal.overflow_cast-bytes
-overflow_cast-bytes c = search laws.low_byte
+pub joined-requires : goal.joined-requires
+joined-requires c = search laws.top_few
 
 pub overflow_sub-bytes : goal.overflow_sub-bytes
 overflow_sub-bytes c = search laws.some_before
@@ -21,4 +18,4 @@ pub measured-requires : goal.measured-requires
 measured-requires c = search laws.two_zeros
 
 pub returns : goal.returns
-returns c = search laws.two_composed
+returns c = let h = rw c.to_be_bytes.ensures at c.measured.ensures in search laws.two_composed

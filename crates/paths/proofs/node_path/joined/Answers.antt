@@ -2,8 +2,5 @@
 use Rattle.paths.proofs.ComposeLaws as laws
 use Rattle.paths.proofs.node_path.joined.Goals as goal
 
-pub overflow_sub-mask : goal.overflow_sub-mask
-overflow_sub-mask c = search laws.some_moved
-
 pub returns : goal.returns
-returns c = search laws.moved_in
+returns c = rw (c.from.ensures, c.from-2.ensures) (search laws.moved_in)

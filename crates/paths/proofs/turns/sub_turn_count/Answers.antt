@@ -5,5 +5,5 @@ use Rattle.paths.proofs.turns.sub_turn_count.Goals as goal
 pub returns-then-negative : goal.returns-then-negative
 returns-then-negative c = search laws.count_negative
 
-pub returns : goal.returns
-returns c = search laws.count_positive
+pub returns-else-negative : goal.returns-else-negative
+returns-else-negative c = search laws.count_positive
