@@ -1,5 +1,7 @@
 -- Copying bytes, and a new atom at the end of the records.
-use Rattle.std.proofs.Common.{◌≡◌, ℕ, ◌+◌, ◌-◌, ◌<◌, ◌≤◌, List, [], length, get_or, take, drop, set, sym, refl, ap, ◌∙◌, arith, length-drop, length-take-le, get_or-drop, get_or-set_other, get_or-take, get_or-set_same, ext_get_or, ne_eqb}
+use Rattle.std.proofs.Common.{◌≡◌, ℕ, ◌+◌, ◌-◌, ◌<◌, ◌≤◌, List, [], ◌++◌, length, get_or, take, drop, set, sym, refl, ap, ◌∙◌, arith, rules, length-append, length-take, length-drop, length-take-le, get_or-set_same, ne_eqb}
+use borrow.Rule.Slice.PartMut.{put_mid}
+use Rattle.std.proofs.lemmas.List.{places, drop_at, take_at}
 use Rattle.meaning.specs.Tree.{atom}
 use Rattle.store.specs.declared.Cell.TheVariants.{Pair, Atom}
 use Rattle.store.specs.declared.Charges.{Charges}
@@ -12,47 +14,19 @@ use Rattle.store.proofs.Places.{apart5, node_zero, node_next, split}
 use Rattle.store.proofs.Trees.{tree_atom}
 use Rattle.store.proofs.Append.{record_room, here, appended, after, put_after, room_paid}
 
--- the loop that copies bytes
-pub record Copying (s t : List ℕ) (a : ℕ) (b : List ℕ) (i : ℕ) : Type 0 where
-  pub within : i ≤ length b
-  pub fits : a + length b ≤ length s
-  pub writes : Writes s t a (a + length b)
-  pub same : (j : ℕ) → j < i → get_or t (a + j) 0 ≡ get_or b j 0
-
-pub copy_starts : (s : List ℕ) (a : ℕ) (b : List ℕ) → a + length b ≤ length s → Copying s s a b 0
-copy_starts s a b h = record {
-  within = omega arith;
-  fits = h;
-  writes = record { long = refl; below = λ j k. refl; above = λ j k. refl };
-  same = λ j k. absurd (omega arith);
-}
-
-pub copy_turn : (s t : List ℕ) (a : ℕ) (b : List ℕ) (i : ℕ) → Copying s t a b i → i < length b → Copying s (set t (a + i) (get_or b i 0)) a b (i + 1)
-copy_turn s t a b i v h = record {
-  within = omega arith;
-  fits = v.fits;
-  writes = both a (a + length b) v.writes (one t (a + i) (get_or b i 0)) (omega arith) (omega arith) (omega arith) (omega arith);
-  same = λ j k. split j i
-      (λ o. get_or-set_other t (a + i) (a + j) (get_or b i 0) 0 (omega arith) ∙ v.same j o)
-      (λ o. let e : j ≡ i = omega arith in let z : length t ≡ length s = v.writes.long in let y : a + length b ≤ length s = v.fits in rw e (get_or-set_same t (a + i) (get_or b i 0) 0 (omega arith)));
-}
-
-pub copy_room : (s t : List ℕ) (a : ℕ) (b : List ℕ) (i : ℕ) → Copying s t a b i → i < length b → a + i < length t
-copy_room s t a b i v h = let z : length t ≡ length s = v.writes.long in let y : a + length b ≤ length s = v.fits in omega arith
-
-pub copy_long : (s t : List ℕ) (a : ℕ) (b : List ℕ) (i : ℕ) → Copying s t a b i → length t ≡ length s
-copy_long s t a b i v = v.writes.long
-
-pub copy_ends : (s t : List ℕ) (a : ℕ) (b : List ℕ) (i : ℕ) → Copying s t a b i → length b ≤ i → Copied s t a b
-copy_ends s t a b i v h =
-    let z : length t ≡ length s = v.writes.long in
-    let y : a + length b ≤ length s = v.fits in
-    let x : length (drop a t) ≡ length t - a = length-drop a t in
-    let l : length (take (length b) (drop a t)) ≡ length b = length-take-le (length b) (drop a t) (omega arith) in
+-- bytes copied over a part
+pub copied : (s ys b : List ℕ) (a k : ℕ) → a + length b ≤ length s → k ≡ length b → ys ≡ b → Copied s (put_mid a k s ys) a b
+copied s ys b a k h e ey =
+    let ek : length ys ≡ k = ap length ey ∙ sym e in
     record {
-      writes = v.writes;
-      bytes = ext_get_or 0 (take (length b) (drop a t)) b l
-          (λ j k. get_or-take (length b) (drop a t) j 0 (omega arith) ∙ get_or-drop a t j 0 ∙ v.same j (omega arith));
+      writes = record {
+        long = simp (length-append, length-take, length-drop) (omega arith);
+        below = λ j hj. search (rules, places);
+        above = λ j hj. search (rules, places);
+      };
+      bytes =
+          let la : length (take a s) ≡ a = length-take-le a s (omega arith) in
+          rw (drop_at (take a s) (ys ++ drop k (drop a s)) a la, ey) (take_at b (drop k (drop a s)) (length b) refl);
     }
 
 -- the bytes of a new atom

@@ -1,7 +1,8 @@
 -- What each return of the readers needs: cells, bytes, prints.
-use Rattle.std.proofs.Common.{◌≡◌, ℕ, ◌+◌, ◌%◌, ◌^◌, ◌<◌, ◌≤◌, List, length, get_or, take, drop, refl, add-one, arith, drop_of_length-le, drop-cons, le-ltb, lt-ltb, eq-eqb, ne_eqb}
+use Rattle.std.proofs.Common.{◌≡◌, ℕ, ◌+◌, ◌%◌, ◌<◌, ◌≤◌, List, get_or, take, drop, [], ◌∷◌, refl, le-ltb, lt-ltb, eq-eqb, ne_eqb}
 use Rattle.store.specs.declared.Cell.TheVariants.{Pair, Atom}
 use Rattle.store.specs.Cells.{num16, kind_at, cell_at, bytes_at}
+use Rattle.std.specs.List.{fold}
 use Rattle.store.specs.Nodes.{mixed, print_from}
 
 pub cell_pair : (s : List ℕ) (n l r : ℕ) → get_or s n 0 % 4 ≡ 2 → l ≡ num16 s (n + 1) → r ≡ num16 s (n + 3) → l < n → r < n → Pair l r ≡ cell_at s n
@@ -28,25 +29,8 @@ pub bytes_made : (f s x : List ℕ) (n a k : ℕ) → x ≡ take k (drop a s) �
 unfolding bytes_at kind_at
 bytes_made f s x n a k e ea ek t = rw (e, ea, ek) (simp (eq-eqb _ _ t))
 
--- the loop over an atom's bytes
-pub record Printed (b : List ℕ) (a i : ℕ) : Type 0 where
-  pub within : i ≤ length b
-  pub so : print_from a (drop i b) ≡ print_from 7 b
-
-pub print_starts : (b : List ℕ) → Printed b 7 0
-print_starts b = record { within = omega arith; so = refl }
-
-pub print_turn : (b : List ℕ) (a i x w : ℕ) → Printed b a i → x ≡ mixed a w → w ≡ get_or b i 0 → i < length b → Printed b x (i + 1)
+-- the print of an atom's bytes is their fold
+pub print_fold : (a : ℕ) (b : List ℕ) → fold mixed a b ≡ print_from a b
 unfolding print_from
-print_turn b a i x w p e ew h = record {
-  within = omega arith;
-  so = rw (add-one, e, ew) (rw (drop-cons b i 0 h) at p.so);
-}
-
-pub print_ends : (b : List ℕ) (a i : ℕ) → Printed b a i → length b ≤ i → a ≡ print_from 7 b
-unfolding print_from
-print_ends b a i p h = rw (drop_of_length-le b h) at p.so
-
-pub mix_is : (a b x y z : ℕ) → z ≡ (y + 1442695040888963407) % 2 ^ 64 → y ≡ (x + b) % 2 ^ 64 → x ≡ (a + a) % 2 ^ 64 → z ≡ mixed a b
-unfolding mixed
-mix_is a b x y z ez ey ex = rw (ez, ey, ex)
+print_fold a [] = refl
+print_fold a (x ∷ xs) = print_fold (mixed a x) xs

@@ -1,5 +1,9 @@
 -- Writes to a stretch of a list of bytes: what they leave, and what is read back.
-use Rattle.std.proofs.Common.{◌≡◌, ℕ, ◌+◌, ◌-◌, ◌/◌, ◌%◌, ◌<◌, ◌≤◌, List, length, get_or, drop, set, sym, ap, ◌∙◌, arith, length-drop, length-set, get_or-drop, get_or-set_other, get_or-set_same, ext_get_or}
+use Rattle.std.proofs.Common.{◌≡◌, ℕ, suc, ◌+◌, ◌-◌, ◌/◌, ◌%◌, ◌<◌, ◌≤◌, List, length, get_or, drop, set, sym, ap, ◌∙◌, arith, length-drop, length-set, get_or-drop, get_or-set_other, get_or-set_same, ext_get_or, add-one, append_assoc}
+use borrow.Rule.Slice.PartMut.{put_mid}
+use Rattle.std.specs.Int.{w16, w64, to_le_bytes}
+use Rattle.std.proofs.lemmas.List.{drop-drop}
+use Rattle.std.proofs.lemmas.List.Edits.{sets, sets-eq}
 use Rattle.store.specs.Cells.{num16, num32, num64, put16, put32, put64, Writes}
 
 pub both : {s t u : List ℕ} {a b c d : ℕ} (l h : ℕ) → Writes s t a b → Writes t u c d → l ≤ a → l ≤ c → b ≤ h → d ≤ h → Writes s u l h
@@ -86,3 +90,37 @@ same64 s i x h hx =
     let a : num32 (put32 u (i + 4) (x / 4294967296)) i ≡ x % 4294967296 = below32 (four u (i + 4) (x / 4294967296)) i (omega arith) ∙ same32 s i (x % 4294967296) (omega arith) (omega arith) in
     let b : num32 (put32 u (i + 4) (x / 4294967296)) (i + 4) ≡ x / 4294967296 = same32 u (i + 4) (x / 4294967296) (omega arith) (omega arith) in
     rw (a, b) (omega arith)
+
+-- numbers whose bytes are written over a part
+put_sets : (s ys : List ℕ) (i k : ℕ) → i + k ≤ length s → k ≡ length ys → put_mid i k s ys ≡ sets s i ys
+put_sets s ys i k h e =
+    let h' : i + length ys ≤ length s = omega arith in
+    rw (drop-drop, e, ← append_assoc) (sym (sets-eq ys s i h'))
+
+pub put16_bytes : (s : List ℕ) (i k x : ℕ) → i + 1 < length s → x < 65536 → k ≡ 2 → put_mid i k s (to_le_bytes w16 x) ≡ put16 s i x
+unfolding put16
+put16_bytes s i k x h hx e =
+    let a : put_mid i k s (to_le_bytes w16 x) ≡ sets s i (to_le_bytes w16 x) = put_sets s (to_le_bytes w16 x) i k (omega arith) e in
+    let b : x / 256 % 256 ≡ x / 256 = omega arith in
+    a ∙ rw (add-one, b)
+
+pub put64_bytes : (s : List ℕ) (i k x : ℕ) → i + 7 < length s → x < 18446744073709551616 → k ≡ 8 → put_mid i k s (to_le_bytes w64 x) ≡ put64 s i x
+unfolding put64 put32 put16
+put64_bytes s i k x h hx e =
+    let a : put_mid i k s (to_le_bytes w64 x) ≡ sets s i (to_le_bytes w64 x) = put_sets s (to_le_bytes w64 x) i k (omega arith) e in
+    let i₁ : suc i ≡ i + 1 = omega arith in
+    let i₂ : suc (suc i) ≡ i + 2 = omega arith in
+    let i₃ : suc (suc (suc i)) ≡ i + 2 + 1 = omega arith in
+    let i₄ : suc (suc (suc (suc i))) ≡ i + 4 = omega arith in
+    let i₅ : suc (suc (suc (suc (suc i)))) ≡ i + 4 + 1 = omega arith in
+    let i₆ : suc (suc (suc (suc (suc (suc i))))) ≡ i + 4 + 2 = omega arith in
+    let i₇ : suc (suc (suc (suc (suc (suc (suc i)))))) ≡ i + 4 + 2 + 1 = omega arith in
+    let b₀ : x % 4294967296 % 65536 % 256 ≡ x % 256 = omega arith in
+    let b₁ : x % 4294967296 % 65536 / 256 ≡ x / 256 % 256 = omega arith in
+    let b₂ : x % 4294967296 / 65536 % 256 ≡ x / 65536 % 256 = omega arith in
+    let b₃ : x % 4294967296 / 65536 / 256 ≡ x / 16777216 % 256 = omega arith in
+    let b₄ : x / 4294967296 % 65536 % 256 ≡ x / 4294967296 % 256 = omega arith in
+    let b₅ : x / 4294967296 % 65536 / 256 ≡ x / 1099511627776 % 256 = omega arith in
+    let b₆ : x / 4294967296 / 65536 % 256 ≡ x / 281474976710656 % 256 = omega arith in
+    let b₇ : x / 4294967296 / 65536 / 256 ≡ x / 72057594037927936 % 256 = omega arith in
+    a ∙ cc

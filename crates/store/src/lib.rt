@@ -2,14 +2,14 @@
 // Reading is total: a pair is a pair only where both parts are numbered below it.
 #![tactic(auto)]
 
-ghost use Rattle.std.specs.Prelude.{◌≡◌, ◌+◌, ◌-◌, ◌*◌, ◌/◌, ◌%◌, ◌<◌, ◌≤◌, length, take, drop};
+ghost use Rattle.std.specs.Prelude.{◌≡◌, ◌+◌, ◌-◌, ◌*◌, ◌/◌, ◌%◌, ◌<◌, ◌≤◌, ◌⊎◌, length, take, drop};
 ghost use Rattle.meaning.specs.Tree.{atom, pair};
 ghost use Rattle.meaning.specs.Limits.{unit_limit, pair_cost, atom_cost};
 ghost use Rattle.meaning.specs.Constant.{seems_constant, seems_constant_tail};
 ghost use Rattle.meaning.specs.Outcome.{zeroed};
-ghost use Rattle.store.specs.Cells.{num16, num32, num64, put16, put32, put64, Room, cell_at, bytes_at, same_at, pair_put, atom_put, Copied};
+ghost use Rattle.store.specs.Cells.{num16, num64, put16, put64, Room, cell_at, bytes_at, same_at, pair_put, atom_put};
 ghost use Rattle.store.specs.Nodes.{tree_at, tree_in, mixed, print_from, print_of};
-ghost use Rattle.store.specs.Store.{noted_at, noted_tail_at, digit, note, note_tail, atom_most, free_limit, Paid, Held, Ready};
+ghost use Rattle.store.specs.Store.{noted_at, noted_tail_at, digit, atom_most, free_limit, Paid, Held, Ready};
 ghost use Rattle.store.specs.Makers.{charged, lend, MadeOk, Put, LaidOk, Begun, Answered, Grown, Joins};
 
 use refusals::Refusal;
@@ -41,55 +41,41 @@ pub struct Made {
 
 // ---- numbers in the room, low byte first
 
-fn wide(x: u8) -> usize
-    ensures { (result ≡ x) × (result < 256) }
-{
-    x as usize
-}
-
 fn num(room: &[u8], i: usize) -> usize
     requires { i + 1 < length room.now }
     ensures { (result ≡ num16 room.now i) × (result < 65536) }
 {
-    wide(room[i]) + wide(room[i + 1]) * 256
-}
-
-fn num4(room: &[u8], i: usize) -> u64
-    requires { i + 3 < length room.now }
-    ensures { (result ≡ num32 room.now i) × (result < 4294967296) }
-{
-    num(room, i) as u64 + num(room, i + 2) as u64 * 65536
+    usize::from(u16::from_le_bytes([room[i], room[i + 1]]))
 }
 
 fn num8(room: &[u8], i: usize) -> u64
     requires { i + 7 < length room.now }
     ensures { result ≡ num64 room.now i }
 {
-    num4(room, i) + num4(room, i + 4) * 4294967296
+    u64::from_le_bytes([
+        room[i],
+        room[i + 1],
+        room[i + 2],
+        room[i + 3],
+        room[i + 4],
+        room[i + 5],
+        room[i + 6],
+        room[i + 7],
+    ])
 }
 
 fn put(room: &mut [u8], i: usize, x: usize)
     requires { (i + 1 < length room.old) × (x < 65536) }
     ensures { room.new ≡ put16 room.old i x }
 {
-    room[i] = (x % 256) as u8;
-    room[i + 1] = (x / 256) as u8;
-}
-
-fn put4(room: &mut [u8], i: usize, x: u64)
-    requires { (i + 3 < length room.old) × (x < 4294967296) }
-    ensures { room.new ≡ put32 room.old i x }
-{
-    put(room, i, (x % 65536) as usize);
-    put(room, i + 2, (x / 65536) as usize);
+    room[i..i + 2].copy_from_slice(&(x as u16).to_le_bytes());
 }
 
 fn put8(room: &mut [u8], i: usize, x: u64)
     requires { i + 7 < length room.old }
     ensures { room.new ≡ put64 room.old i x }
 {
-    put4(room, i, x % 4294967296);
-    put4(room, i + 4, x / 4294967296);
+    room[i..i + 8].copy_from_slice(&x.to_le_bytes());
 }
 
 // ---- reading
@@ -102,14 +88,11 @@ pub fn look_node(room: &[u8], n: usize) -> Cell
     if room[n] % 4 == 2 {
         let l = num(room, n + 1);
         let r = num(room, n + 3);
-        if l < n {
-            if r < n { Cell::Pair(l, r) } else { Cell::Atom }
-        } else {
-            Cell::Atom
+        if l < n && r < n {
+            return Cell::Pair(l, r);
         }
-    } else {
-        Cell::Atom
     }
+    Cell::Atom
 }
 
 // The part of s from at on, of len bytes; shorter where s ends.
@@ -119,11 +102,8 @@ fn part(s: &[u8], at: usize, len: usize) -> &[u8]
 {
     if at + len <= s.len() {
         &s[at..at + len]
-    } else if at <= s.len() {
-        &s[at..]
     } else {
-        let z = s.len();
-        &s[z..]
+        &s[at.min(s.len())..]
     }
 }
 
@@ -134,39 +114,23 @@ pub fn atom_bytes<'a>(form: &'a [u8], room: &'a [u8], n: usize) -> &'a [u8]
 {
     let at = num(room, n + 1);
     let len = num(room, n + 3);
-    if room[n] % 4 == 1 {
-        part(room, at, len)
-    } else {
-        part(form, at, len)
-    }
+    let source = if room[n] % 4 == 1 { room } else { form };
+    part(source, at, len)
 }
 
 // Fingerprints: sums that wrap on purpose, the left one doubled so that order matters.
 fn mix(a: u64, b: u64) -> u64
     ensures { result ≡ mixed a b }
 {
-    std::num::wrapping_add_u64(
-        std::num::wrapping_add_u64(std::num::wrapping_add_u64(a, a), b),
-        1442695040888963407,
-    )
-}
-
-fn wide64(x: u8) -> u64
-    ensures { (result ≡ x) × (result < 256) }
-{
-    x as u64
+    a.wrapping_add(a)
+        .wrapping_add(b)
+        .wrapping_add(1442695040888963407)
 }
 
 fn print_bytes(b: &[u8]) -> u64
     ensures { result ≡ print_from 7 b.now }
 {
-    let mut a: u64 = 7;
-    let mut i: usize = 0;
-    while i < b.len() {
-        a = mix(a, wide64(b[i]));
-        i += 1;
-    }
-    a
+    b.iter().fold(7, |print, byte| mix(print, u64::from(*byte)))
 }
 
 // A node's fingerprint: kept in a pair's record, counted for an atom.
@@ -175,7 +139,7 @@ pub fn print_node<'a>(form: &'a [u8], room: &'a [u8], ch: Charges, n: usize) -> 
     ensures { result ≡ print_of (tree_in form.now room.now n) }
 {
     match look_node(room, n) {
-        Cell::Pair(_, _) => num8(room, n + 5),
+        Cell::Pair(..) => num8(room, n + 5),
         Cell::Atom => print_bytes(atom_bytes(form, room, n)),
     }
 }
@@ -186,7 +150,7 @@ pub fn same_node(room: &[u8], n: usize) -> usize
     ensures { result ≡ same_at room.now n }
 {
     match look_node(room, n) {
-        Cell::Pair(_, _) => num(room, n + 13),
+        Cell::Pair(..) => num(room, n + 13),
         Cell::Atom => n,
     }
 }
@@ -229,13 +193,10 @@ fn append_pair(form: &[u8], room: &mut [u8], ch: Charges, l: usize, r: usize) ->
 {
     let a = print_node(form, room, ch, l);
     let b = print_node(form, room, ch, r);
-    let n = ch.end;
-    put_pair(room, n, l, r, mix(a, b));
+    put_pair(room, ch.end, l, r, mix(a, b));
     Charges {
-        units: ch.units,
-        free: ch.free,
-        end: n + 15,
-        top: ch.top,
+        end: ch.end + 15,
+        ..ch
     }
 }
 
@@ -248,30 +209,15 @@ fn put_atom(room: &mut [u8], n: usize, k: u8, at: usize, len: usize)
     room[n] = k;
 }
 
-// Copies b to at.
-fn copy(room: &mut [u8], at: usize, b: &[u8])
-    requires { (at + length b.now ≤ length room.old) × (at < 65536) × (length b.now < 65536) }
-    ensures { Copied room.old room.new at b.now }
-{
-    let mut i: usize = 0;
-    while i < b.len() {
-        room[at + i] = b[i];
-        i += 1;
-    }
-}
-
 // An atom whose bytes stand in the form.
 fn append_form_atom(form: &[u8], room: &mut [u8], ch: Charges, at: usize, len: usize) -> Charges
     requires { Held form.now room.old ch × Paid ch 5 × (at < 65536) × (len ≤ atom_most) }
     ensures { Put form.now room.old room.new ch result (atom (take len (drop at form.now))) }
 {
-    let n = ch.end;
-    put_atom(room, n, 0, at, len);
+    put_atom(room, ch.end, 0, at, len);
     Charges {
-        units: ch.units,
-        free: ch.free,
-        end: n + 5,
-        top: ch.top,
+        end: ch.end + 5,
+        ..ch
     }
 }
 
@@ -280,15 +226,13 @@ fn append_atom<'a>(form: &'a [u8], room: &mut [u8], ch: Charges, b: &'a [u8]) ->
     requires { Held form.now room.old ch × Paid ch (5 + length b.now) × (length b.now ≤ atom_most) }
     ensures { Put form.now room.old room.new ch result (atom b.now) }
 {
-    let n = ch.end;
     let at = ch.top - b.len();
-    copy(room, at, b);
-    put_atom(room, n, 1, at, b.len());
+    room[at..ch.top].copy_from_slice(b);
+    put_atom(room, ch.end, 1, at, b.len());
     Charges {
-        units: ch.units,
-        free: ch.free,
-        end: n + 5,
+        end: ch.end + 5,
         top: at,
+        ..ch
     }
 }
 
@@ -306,9 +250,10 @@ pub fn pair_node(
     ensures { MadeOk form.now room.old room.new ch pair_cost (pair (tree_in form.now room.old l) (tree_in form.now room.old r)) result }
 {
     let c = charge(ch, 8)?;
-    let n = c.end;
-    let d = append_pair(form, room, c, l, r);
-    Ok(Made { node: n, ch: d })
+    Ok(Made {
+        node: c.end,
+        ch: append_pair(form, room, c, l, r),
+    })
 }
 
 // An atom of these bytes, for 4 units and one a byte; the empty atom is node 0, and free.
@@ -321,13 +266,14 @@ pub fn atom_node<'a>(
     requires { Held form.now room.old ch × (length b.now ≤ atom_most) }
     ensures { MadeOk form.now room.old room.new ch (atom_cost b.now) (atom b.now) result }
 {
-    if b.len() == 0 {
+    if b.is_empty() {
         return Ok(Made { node: 0, ch });
     }
     let c = charge(ch, 4 + b.len())?;
-    let n = c.end;
-    let d = append_atom(form, room, c, b);
-    Ok(Made { node: n, ch: d })
+    Ok(Made {
+        node: c.end,
+        ch: append_atom(form, room, c, b),
+    })
 }
 
 // An atom of the form, of len bytes from at on; charged like any other.
@@ -345,9 +291,10 @@ pub fn form_atom_node(
         return Ok(Made { node: 0, ch });
     }
     let c = charge(ch, 4 + len)?;
-    let n = c.end;
-    let d = append_form_atom(form, room, c, at, len);
-    Ok(Made { node: n, ch: d })
+    Ok(Made {
+        node: c.end,
+        ch: append_form_atom(form, room, c, at, len),
+    })
 }
 
 // ---- makers that are free of units, for patterns
@@ -358,10 +305,8 @@ fn give_free(ch: Charges, k: usize) -> Charges
     ensures { result ≡ lend ch k }
 {
     Charges {
-        units: ch.units,
         free: ch.free + k,
-        end: ch.end,
-        top: ch.top,
+        ..ch
     }
 }
 
@@ -370,9 +315,10 @@ pub fn lay_pair(form: &[u8], room: &mut [u8], ch: Charges, l: usize, r: usize) -
     ensures { LaidOk form.now room.old room.new ch 15 (pair (tree_in form.now room.old l) (tree_in form.now room.old r)) result }
 {
     let c = give_free(ch, 15);
-    let n = c.end;
-    let d = append_pair(form, room, c, l, r);
-    Made { node: n, ch: d }
+    Made {
+        node: c.end,
+        ch: append_pair(form, room, c, l, r),
+    }
 }
 
 pub fn lay_atom<'a>(form: &'a [u8], room: &mut [u8], ch: Charges, b: &'a [u8]) -> Made
@@ -380,9 +326,10 @@ pub fn lay_atom<'a>(form: &'a [u8], room: &mut [u8], ch: Charges, b: &'a [u8]) -
     ensures { LaidOk form.now room.old room.new ch (5 + length b.now) (atom b.now) result }
 {
     let c = give_free(ch, 5 + b.len());
-    let n = c.end;
-    let d = append_atom(form, room, c, b);
-    Made { node: n, ch: d }
+    Made {
+        node: c.end,
+        ch: append_atom(form, room, c, b),
+    }
 }
 
 // A store with nil at 0, and nothing else, whatever the room held.
@@ -416,43 +363,13 @@ pub fn noted_tail(room: &[u8], n: usize) -> u8
     room[n] / 16 % 4
 }
 
-fn digit_of(b: bool) -> u8
-    ensures { (result ≡ digit b) × (result < 4) }
+// The kind byte k with its base-4 digit at PLACE, 4 or 16, made that of b.
+fn with_note<const PLACE: u8>(k: u8, b: bool) -> u8
+    requires { (PLACE ≡ 4) ⊎ (PLACE ≡ 16) }
+    ensures { result ≡ k % PLACE + digit b * PLACE + k / (PLACE * 4) * (PLACE * 4) }
 {
-    if b { 3 } else { 2 }
-}
-
-// The kind byte k with its digit 1, or 2, made d.
-fn with_note(k: u8, d: u8) -> u8
-    requires { d < 4 }
-    ensures { result ≡ k % 4 + d * 4 + k / 16 * 16 }
-{
-    k % 4 + d * 4 + k / 16 * 16
-}
-
-fn with_note_tail(k: u8, d: u8) -> u8
-    requires { d < 4 }
-    ensures { result ≡ k % 16 + d * 16 + k / 64 * 64 }
-{
-    k % 16 + d * 16 + k / 64 * 64
-}
-
-fn put_note(room: &mut [u8], n: usize, b: bool)
-    requires { Room room.old n }
-    ensures { room.new ≡ note room.old n b }
-{
-    let k = room[n];
-    let x = with_note(k, digit_of(b));
-    room[n] = x;
-}
-
-fn put_note_tail(room: &mut [u8], n: usize, b: bool)
-    requires { Room room.old n }
-    ensures { room.new ≡ note_tail room.old n b }
-{
-    let k = room[n];
-    let x = with_note_tail(k, digit_of(b));
-    room[n] = x;
+    let d = if b { 3 } else { 2 };
+    k % PLACE + d * PLACE + k / (PLACE * 4) * (PLACE * 4)
 }
 
 // Remembers an answer, and gives it.
@@ -460,7 +377,7 @@ pub fn remember(form: &[u8], room: &mut [u8], ch: Charges, n: usize, b: bool) ->
     requires { Ready form.now room.old ch n × (b ≡ seems_constant (tree_at form.now room.old n)) }
     ensures { Answered form.now room.old room.new ch result (seems_constant (tree_in form.now room.old n)) }
 {
-    put_note(room, n, b);
+    room[n] = with_note::<4>(room[n], b);
     b
 }
 
@@ -468,7 +385,7 @@ pub fn remember_tail(form: &[u8], room: &mut [u8], ch: Charges, n: usize, b: boo
     requires { Ready form.now room.old ch n × (b ≡ seems_constant_tail (tree_at form.now room.old n)) }
     ensures { Answered form.now room.old room.new ch result (seems_constant_tail (tree_in form.now room.old n)) }
 {
-    put_note_tail(room, n, b);
+    room[n] = with_note::<16>(room[n], b);
     b
 }
 
@@ -486,9 +403,5 @@ pub fn join_node(form: &[u8], room: &mut [u8], ch: Charges, n: usize, m: usize)
 pub fn zero_room(room: &mut [u8])
     ensures { room.new ≡ zeroed room.old }
 {
-    let mut i: usize = 0;
-    while i < room.len() {
-        room[i] = 0;
-        i += 1;
-    }
+    room.fill(0);
 }

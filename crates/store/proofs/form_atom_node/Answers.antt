@@ -6,8 +6,8 @@ use Rattle.store.proofs.form_atom_node.Goals as goal
 pub returns-then-len-eq0 : goal.returns-then-len-eq0
 returns-then-len-eq0 c = search charging.form_nil
 
-pub append_form_atom-d-requires : goal.append_form_atom-d-requires
-append_form_atom-d-requires c = (search charging.held_charged, search charging.form_paid, search rules, search rules)
+pub append_form_atom-requires : goal.append_form_atom-requires
+append_form_atom-requires c = (search charging.held_charged, search charging.form_paid, search rules, search rules)
 
 pub returns : goal.returns
 returns c = search charging.form_bought

@@ -2,8 +2,8 @@
 use Rattle.store.proofs.Charging as charging
 use Rattle.store.proofs.lay_pair.Goals as goal
 
-pub append_pair-d-requires : goal.append_pair-d-requires
-append_pair-d-requires c = (search charging.free_ready, search charging.free_ready, search charging.free_paid)
+pub append_pair-requires : goal.append_pair-requires
+append_pair-requires c = (search charging.free_ready, search charging.free_ready, search charging.free_paid)
 
 pub returns : goal.returns
 returns c = search charging.laid

@@ -1,6 +1,8 @@
--- mix: an answer for each need; what carries weight stands in the laws.
-use Rattle.store.proofs.Laws as laws
+-- mix: an answer for each need.
+use Rattle.std.proofs.Common.{refl}
+use Rattle.store.specs.Nodes.{mixed}
 use Rattle.store.proofs.mix.Goals as goal
 
 pub returns : goal.returns
-returns c = search laws.mix_is
+unfolding mixed
+returns c = refl

@@ -1,6 +1,6 @@
--- num: an answer for each need; what carries weight stands in the laws.
-use Rattle.store.specs.Cells.{num16}
+-- num: an answer for each need.
 use Rattle.std.proofs.Common.{rules}
+use Rattle.store.specs.Cells.{num16}
 use Rattle.store.proofs.num.Goals as goal
 
 pub returns : goal.returns

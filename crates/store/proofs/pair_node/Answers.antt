@@ -3,8 +3,8 @@ use Rattle.store.proofs.Charging as charging
 use Rattle.std.proofs.Common.{rules}
 use Rattle.store.proofs.pair_node.Goals as goal
 
-pub append_pair-d-requires : goal.append_pair-d-requires
-append_pair-d-requires c = (search charging.ready_charged, search charging.ready_charged, search charging.pair_paid)
+pub append_pair-requires : goal.append_pair-requires
+append_pair-requires c = (search charging.ready_charged, search charging.ready_charged, search charging.pair_paid)
 
 pub returns : goal.returns
 returns c = search charging.bought

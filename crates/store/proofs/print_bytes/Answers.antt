@@ -1,12 +1,9 @@
 -- print_bytes: an answer for each need; what carries weight stands in the laws.
+use Rattle.std.proofs.Common.{◌≡◌, ◌∙◌, rules}
+use Rattle.std.specs.List.{fold}
+use Rattle.store.specs.Nodes.{mixed}
 use Rattle.store.proofs.Laws as laws
 use Rattle.store.proofs.print_bytes.Goals as goal
 
-pub loop-i-init : goal.loop-i-init
-loop-i-init c = search laws.print_starts
-
-pub loop-i-preserved : goal.loop-i-preserved
-loop-i-preserved c = search laws.print_turn
-
 pub returns : goal.returns
-returns c = search laws.print_ends
+returns c = let e : c.fold.result ≡ fold mixed 7 c.args.b.now = search rules in e ∙ laws.print_fold 7 c.args.b.now

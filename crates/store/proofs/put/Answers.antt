@@ -1,8 +1,7 @@
 -- put: an answer for each need; what carries weight stands in the laws.
-use Rattle.store.specs.Cells.{put16}
-use Rattle.std.proofs.Common.{rules}
+use Rattle.std.proofs.Common.{◌+◌, ◌-◌, arith}
+use Rattle.store.proofs.Writes as writes
 use Rattle.store.proofs.put.Goals as goal
 
 pub returns : goal.returns
-unfolding put16
-returns c = search rules
+returns c = rw (c.copy_from_slice.ensures.after, c.to_le_bytes.ensures) (writes.put16_bytes c.args.room.now c.args.i (c.args.i + 2 - c.args.i) c.args.x (omega arith) (omega arith) (omega arith))

@@ -1,10 +1,9 @@
 -- remember: an answer for each need; what carries weight stands in the laws.
+use Rattle.std.proofs.Common.{◌≡◌, set}
+use Rattle.store.specs.Store.{note}
 use Rattle.store.proofs.Notes as notes
-use Rattle.store.proofs.Ready as ready
 use Rattle.store.proofs.remember.Goals as goal
 
-pub put_note-requires : goal.put_note-requires
-put_note-requires c = search ready.room
-
 pub returns : goal.returns
-returns c = search notes.remembered
+unfolding note
+returns c = let e : set c.args.room.now c.args.n c.with_note.result ≡ note c.args.room.now c.args.n c.args.b = cc in search notes.remembered

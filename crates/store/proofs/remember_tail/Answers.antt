@@ -1,10 +1,9 @@
 -- remember_tail: an answer for each need; what carries weight stands in the laws.
+use Rattle.std.proofs.Common.{◌≡◌, set}
+use Rattle.store.specs.Store.{note_tail}
 use Rattle.store.proofs.Notes as notes
-use Rattle.store.proofs.Ready as ready
 use Rattle.store.proofs.remember_tail.Goals as goal
 
-pub put_note_tail-requires : goal.put_note_tail-requires
-put_note_tail-requires c = search ready.room
-
 pub returns : goal.returns
-returns c = search notes.remembered_tail
+unfolding note_tail
+returns c = let e : set c.args.room.now c.args.n c.with_note.result ≡ note_tail c.args.room.now c.args.n c.args.b = cc in search notes.remembered_tail
