@@ -3,6 +3,7 @@
 #![tactic(auto)]
 
 ghost use Rattle.std.specs.Prelude.{◌≡◌};
+ghost use Rattle.meaning.specs.Tree.{is_byte};
 ghost use Rattle.notation.specs.Texts.{head_in, place_after};
 
 // Where an expression stands: the head of a list read as code, elsewhere in code, or data.
@@ -37,6 +38,13 @@ impl Place {
 
 // The names of the operators 1 to 9, in their order.
 pub const NAMES: [u8; 9] = *b"qaicfrlx=";
+
+// Whether an atom's bytes are those of 1.
+pub fn is_one(b: &[u8]) -> bool
+    ensures { result ≡ is_byte 1 b.now }
+{
+    matches!(b, [1])
+}
 
 // What a byte does outside quotes: separate, open or close a list, begin a quote, or belong to a word.
 #[derive(Clone, Copy)]
