@@ -8,3 +8,4 @@ pub mod Faults
 pub mod Short
 pub mod Choice
 pub mod Signed
+pub mod Ones

@@ -28,6 +28,13 @@ after Operator t = elim (is_one t) [ true ↦ Data | false ↦ Code ]
 after Code t = Code
 after Data t = Data
 
+-- the place after an element that is the atom 1 (true), or another
+abbrev pub place_after : Place → Bool → Place
+place_after Operator true = Data
+place_after Operator false = Code
+place_after Code one = Code
+place_after Data one = Data
+
 unfoldable mutual
   unfolding atom_text after
 

@@ -65,16 +65,16 @@ module _ (p : Place) (b : List ℕ) where
       go [] h = absurd (h refl)
       go (x ∷ b) h = refl
 
-  pub last_nil_length : length b ≤ 0 → 1 ≡ length (text_rest (atom b) p)
-  last_nil_length h = rw (last_nil (omega arith))
+  pub last_nil_length : length b ≡ 0 → 1 ≡ length (text_rest (atom b) p)
+  last_nil_length h = rw (last_nil h)
 
   some_length : (length b ≡ 0 → ⊥) → length (text_rest (atom b) p) ≡ 4 + length (atom_text p b)
   some_length h =
       let e : length (text_rest (atom b) p) ≡ 3 + length (atom_text p b ++ (0x29 ∷ [])) = rw (last_some h) (omega arith) in
       omega (arith, length-append (atom_text p b) (0x29 ∷ []))
 
-  pub last_length : (k : ℕ) → k ≡ length (atom_text p b) → 0 < length b → 4 + k ≡ length (text_rest (atom b) p)
-  last_length k e h = omega (arith, some_length (λ z. omega arith))
+  pub last_length : (k : ℕ) → k ≡ length (atom_text p b) → (length b ≡ 0 → ⊥) → 4 + k ≡ length (text_rest (atom b) p)
+  last_length k e h = omega (arith, some_length h)
 
   module _ (u : Bool) (e : u ≡ has_name p b) where
     -- a name is one byte
@@ -155,7 +155,7 @@ module _ (p : Place) (b out : List ℕ) (fits : length (atom_text p b) ≤ lengt
 
 module _ (p : Place) (b out : List ℕ) (fits : length (text_rest (atom b) p) ≤ length out) where
   pub last_nil_room : length b ≡ 0 → 0 < length out
-  last_nil_room z = omega (arith, last_nil_length p b (omega arith))
+  last_nil_room z = omega (arith, last_nil_length p b z)
 
   pub last_nil_wrote : length b ≡ 0 → Wrote (text_rest (atom b) p) 1 out (set out 0 0x29)
   last_nil_wrote z = rw (last_nil p b z) (one_set out 0x29 (last_nil_room z))

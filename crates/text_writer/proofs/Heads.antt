@@ -1,4 +1,5 @@
 -- What each return of the questions about places needs. Assumes nothing.
+use mathlib.Core.Logic.{◌⊎◌, inl, inr}
 use mathlib.Core.Path.{◌≡◌, refl, sym, ◌∙◌}
 use mathlib.Core.List.{List, [], ◌∷◌}
 use mathlib.Core.Bool.{Bool, true, false}
@@ -14,7 +15,8 @@ use Rattle.store.specs.Nodes.{tree_at}
 use Rattle.store.proofs.Trees.{tree_pair, tree_atom}
 use Rattle.notation.specs.declared.Place.{Place}
 use Rattle.notation.specs.declared.Place.TheVariants.{Operator, Code, Data}
-use Rattle.notation.specs.Texts.{head_in, is_one, after}
+use Rattle.meaning.proofs.Tests.{on_bool}
+use Rattle.notation.specs.Texts.{head_in, is_one, after, place_after}
 use Rattle.text_writer.specs.Parts.{part_place, first_byte}
 
 -- ---- the head of a list
@@ -37,18 +39,6 @@ first_head rest e = rw e
 
 -- ---- the atom 1
 
-pub one_byte : (b : List ℕ) → length b ≡ 1 → eqb (get_or b 0 0) 1 ≡ is_byte 1 b
-unfolding is_byte
-one_byte [] e = absurd (omega arith)
-one_byte (x ∷ []) e = refl
-one_byte (x ∷ y ∷ b) e = absurd (omega arith)
-
-pub one_not : (b : List ℕ) → (length b ≡ 1 → ⊥) → false ≡ is_byte 1 b
-unfolding is_byte
-one_not [] e = refl
-one_not (x ∷ []) e = absurd (e refl)
-one_not (x ∷ y ∷ b) e = refl
-
 pub one_pair : (f s : List ℕ) (n l r : ℕ) (q : Cell) → q ≡ Pair l r → q ≡ cell_at s n → false ≡ is_one (tree_at f s n)
 unfolding is_one
 one_pair f s n l r q ep eq = rw (tree_pair f s n l r (sym eq ∙ ep))
@@ -60,18 +50,11 @@ one_atom f s b n q u e ep eq eb = rw (tree_atom f s n (sym eq ∙ ep), ← eb) e
 -- ---- what follows a part
 
 module _ (t : Tree) (p : Place) where
-  pub after_one : (u : Bool) → u ≡ is_one t → p ≡ Operator → u ≡ true → Data ≡ after p t
+  pub after_head : (u : Bool) (q : Place) → q ≡ place_after p u → u ≡ is_one t → p ≡ Operator → q ≡ after p t
   unfolding after
-  after_one u e i h = let z : is_one t ≡ true = sym e ∙ h in rw (i, z, after)
+  after_head u q e i h = e ∙ rw (h, i) (on_bool (is_one t) (λ z. rw (z, after) refl) (λ z. rw (z, after) refl))
 
-  pub after_head : (u : Bool) → u ≡ is_one t → p ≡ Operator → u ≡ false → Code ≡ after p t
+  pub after_else : (p ≡ Code) ⊎ (p ≡ Data) → p ≡ after p t
   unfolding after
-  after_head u e i h = let z : is_one t ≡ false = sym e ∙ h in rw (i, z, after)
-
-  pub after_code : p ≡ Code → Code ≡ after p t
-  unfolding after
-  after_code i = rw i
-
-  pub after_data : p ≡ Data → Data ≡ after p t
-  unfolding after
-  after_data i = rw i
+  after_else (inl i) = rw i
+  after_else (inr i) = rw i

@@ -1,4 +1,5 @@
 -- Which atoms have a name, and an atom's text by its choice. Assumes nothing.
+use mathlib.Core.Logic.{◌⊎◌, inl, inr}
 use mathlib.Core.Path.{◌≡◌, refl, sym, ◌∙◌, ap}
 use mathlib.Core.List.{List, [], ◌∷◌}
 use mathlib.Core.Bool.{Bool, true, false, ◌&&◌}
@@ -6,9 +7,9 @@ use mathlib.Core.Option.{Option, none, some}
 use Prim.Native.Nat.{ℕ, ◌-◌, ◌<◌, ◌≤◌}
 use native.Mathlib.Omega.{arith}
 use lib.ListN.{get_or, length}
-use lib.Dec.{leb, ltb}
-use borrow.Author.Tests.{le-leb, lt-leb, leb-true, ltb-true, ltb-false}
-use Rattle.meaning.proofs.Tests.{on_bool, and_inv, not_false}
+use lib.Dec.{eqb, leb, ltb}
+use borrow.Author.Tests.{eq-eqb, le-leb, lt-leb, leb-true, ltb-true, ltb-false}
+use Rattle.meaning.proofs.Tests.{eqb_sound, on_bool, and_inv, not_true, not_false}
 use Rattle.notation.specs.declared.Place.{Place}
 use Rattle.notation.specs.declared.Place.TheVariants.{Operator, Code, Data}
 use Rattle.notation.specs.Words.{names, name_of, name_at, hex, atom_text}
@@ -31,41 +32,63 @@ below_ten x = on_bool (ltb x 10) (λ e. le-leb x 9 (omega (arith, ltb-true x 10 
 positive : (x : ℕ) → (x ≡ 0 → ⊥) → 1 ≤ x
 positive x z = on_bool (ltb 0 x) (λ e. ltb-true 0 x e) (λ e. absurd (z (omega (arith, ltb-false 0 x e))))
 
+-- ---- whether there are bytes
+
+pub no_bytes : (b : List ℕ) (u : Bool) → u ≡ eqb (length b) 0 → u ≡ true → length b ≡ 0
+no_bytes b u e h = eqb_sound (length b) 0 (sym e ∙ h)
+
+pub some_bytes : (b : List ℕ) (u : Bool) → u ≡ eqb (length b) 0 → u ≡ false → length b ≡ 0 → ⊥
+some_bytes b u e h z = not_false (sym h ∙ e ∙ eq-eqb (length b) 0 z)
+
 -- ---- whether a name fits
 
 module _ (p : Place) (b : List ℕ) where
-  pub fits_zero : p ≡ Operator → length b ≡ 1 → get_or b 0 0 ≡ 0 → false ≡ has_name p b
-  fits_zero i h z = go b h z ∙ sym (ap (λ (q : Place). has_name q b) i)
+  -- one byte, by its bounds
+  pub fits_one : p ≡ Operator → 1 ≤ length b → length b < 2 → 1 ≤ get_or b 0 0 → get_or b 0 0 < 10 → true ≡ has_name p b
+  fits_one i h l m n = go b h l m n ∙ sym (ap (λ (q : Place). has_name q b) i)
     where
-      go : (b : List ℕ) → length b ≡ 1 → get_or b 0 0 ≡ 0 → false ≡ has_name Operator b
-      go [] h z = absurd (omega arith)
-      go (x ∷ []) h z = sym (one_name x ∙ rw z)
-      go (x ∷ y ∷ b) h z = absurd (omega arith)
+      go : (b : List ℕ) → 1 ≤ length b → length b < 2 → 1 ≤ get_or b 0 0 → get_or b 0 0 < 10 → true ≡ has_name Operator b
+      go [] h l m n = absurd (omega arith)
+      go (x ∷ []) h l m n = sym (one_name x ∙ rw (le-leb 1 x m, le-leb x 9 (omega arith)))
+      go (x ∷ y ∷ b) h l m n = absurd (omega arith)
 
-  pub fits_low : p ≡ Operator → length b ≡ 1 → (get_or b 0 0 ≡ 0 → ⊥) → ltb (get_or b 0 0) 10 ≡ has_name p b
-  fits_low i h z = go b h z ∙ sym (ap (λ (q : Place). has_name q b) i)
+  pub fits_low : p ≡ Operator → 1 ≤ length b → length b < 2 → get_or b 0 0 < 1 → false ≡ has_name p b
+  fits_low i h l m = go b h l m ∙ sym (ap (λ (q : Place). has_name q b) i)
     where
-      go : (b : List ℕ) → length b ≡ 1 → (get_or b 0 0 ≡ 0 → ⊥) → ltb (get_or b 0 0) 10 ≡ has_name Operator b
-      go [] h z = absurd (omega arith)
-      go (x ∷ []) h z = sym (one_name x ∙ rw (le-leb 1 x (positive x z), below_ten x))
-      go (x ∷ y ∷ b) h z = absurd (omega arith)
+      go : (b : List ℕ) → 1 ≤ length b → length b < 2 → get_or b 0 0 < 1 → false ≡ has_name Operator b
+      go [] h l m = absurd (omega arith)
+      go (x ∷ []) h l m = sym (one_name x ∙ rw (lt-leb 1 x m))
+      go (x ∷ y ∷ b) h l m = absurd (omega arith)
 
-  pub fits_long : p ≡ Operator → (length b ≡ 1 → ⊥) → false ≡ has_name p b
+  pub fits_high : p ≡ Operator → 1 ≤ length b → length b < 2 → 9 < get_or b 0 0 → false ≡ has_name p b
+  fits_high i h l n = go b h l n ∙ sym (ap (λ (q : Place). has_name q b) i)
+    where
+      go : (b : List ℕ) → 1 ≤ length b → length b < 2 → 9 < get_or b 0 0 → false ≡ has_name Operator b
+      go [] h l n = absurd (omega arith)
+      go (x ∷ []) h l n = sym (one_name x ∙ rw (le-leb 1 x (omega arith), lt-leb x 9 n))
+      go (x ∷ y ∷ b) h l n = absurd (omega arith)
+
+  pub fits_none : p ≡ Operator → length b < 1 → false ≡ has_name p b
   unfolding has_name name_at
-  fits_long i h = go b h ∙ sym (ap (λ (q : Place). has_name q b) i)
+  fits_none i h = go b h ∙ sym (ap (λ (q : Place). has_name q b) i)
     where
-      go : (b : List ℕ) → (length b ≡ 1 → ⊥) → false ≡ has_name Operator b
+      go : (b : List ℕ) → length b < 1 → false ≡ has_name Operator b
       go [] h = refl
-      go (x ∷ []) h = absurd (h refl)
+      go (x ∷ b) h = absurd (omega arith)
+
+  pub fits_more : p ≡ Operator → 2 ≤ length b → false ≡ has_name p b
+  unfolding has_name name_at
+  fits_more i h = go b h ∙ sym (ap (λ (q : Place). has_name q b) i)
+    where
+      go : (b : List ℕ) → 2 ≤ length b → false ≡ has_name Operator b
+      go [] h = absurd (omega arith)
+      go (x ∷ []) h = absurd (omega arith)
       go (x ∷ y ∷ b) h = refl
 
-  pub fits_code : p ≡ Code → false ≡ has_name p b
+  pub fits_else : (p ≡ Code) ⊎ (p ≡ Data) → false ≡ has_name p b
   unfolding has_name name_at
-  fits_code i = rw i
-
-  pub fits_data : p ≡ Data → false ≡ has_name p b
-  unfolding has_name name_at
-  fits_data i = rw i
+  fits_else (inl i) = rw i
+  fits_else (inr i) = rw i
 
 -- ---- what a name that fits says
 

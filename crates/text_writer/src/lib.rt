@@ -3,9 +3,9 @@
 
 ghost use Rattle.std.specs.Prelude.{◌≡◌, ◌∷◌, ◌+◌, ◌*◌, ◌/◌, ◌%◌, ◌≤◌, ◌<◌, length};
 ghost use Rattle.std.proofs.Math.Option.{some};
-ghost use Rattle.meaning.specs.Tree.{atom, is_byte};
+ghost use Rattle.meaning.specs.Tree.{atom};
 ghost use Rattle.notation.specs.Words.{name_of, hex_digit, hex, atom_text};
-ghost use Rattle.notation.specs.Texts.{head_in, is_one, after, text_rest, text_of};
+ghost use Rattle.notation.specs.Texts.{is_one, after, text_rest, text_of};
 ghost use Rattle.store.specs.Cells.{Room};
 ghost use Rattle.store.specs.Nodes.{tree_at, tree_in};
 ghost use Rattle.store.specs.Store.{atom_most};
@@ -13,40 +13,25 @@ ghost use Rattle.form.specs.Writes.{Writable, Wrote, extent, Delivered};
 ghost use Rattle.text_writer.specs.Parts.{part_text, part_place, first_byte, has_name};
 
 use form::Extent;
-use notation::Place;
+use notation::{NAMES, Place, is_one};
 use store::Cell;
 
 // ---- places
 
-fn head_in(p: Place) -> Place
-    ensures { result ≡ head_in p }
-{
-    match p {
-        Place::Operator => Place::Operator,
-        Place::Code => Place::Operator,
-        Place::Data => Place::Data,
-    }
-}
-
 // Where the first part of a pair stands: at the head of a list, or as one more part.
+#[tactic(auto, unfolding(crate::specs::Parts::part_place))]
 fn part_place(p: Place, rest: bool) -> Place
     ensures { result ≡ part_place rest p }
 {
-    if rest { p } else { head_in(p) }
+    if rest { p } else { p.head_in() }
 }
 
 // What stands before the first part of a pair: an opening bracket, or a space.
+#[tactic(auto, unfolding(crate::specs::Parts::first_byte))]
 fn first_byte(rest: bool) -> u8
     ensures { result ≡ first_byte rest }
 {
     if rest { 0x20 } else { 0x28 }
-}
-
-// Whether these are the byte 1.
-fn is_one(b: &[u8]) -> bool
-    ensures { result ≡ is_byte 1 b.now }
-{
-    if b.len() == 1 { b[0] == 1 } else { false }
 }
 
 // Whether a node is the atom 1.
@@ -66,15 +51,8 @@ fn after<'a>(form: &'a [u8], room: &'a [u8], n: usize, p: Place) -> Place
     ensures { result ≡ after p (tree_in form.now room.now n) }
 {
     match p {
-        Place::Operator => {
-            if one_at(form, room, n) {
-                Place::Data
-            } else {
-                Place::Code
-            }
-        }
-        Place::Code => Place::Code,
-        Place::Data => Place::Data,
+        Place::Operator => p.after(one_at(form, room, n)),
+        Place::Code | Place::Data => p,
     }
 }
 
@@ -85,8 +63,7 @@ fn name(k: u8) -> u8
     requires { (1 ≤ k) × (k ≤ 9) }
     ensures { name_of k ≡ some result }
 {
-    let names: [u8; 9] = [0x71, 0x61, 0x69, 0x63, 0x66, 0x72, 0x6c, 0x78, 0x3d];
-    names[(k - 1) as usize]
+    NAMES[(k - 1) as usize]
 }
 
 // Whether a name fits these bytes at a place.
@@ -94,15 +71,8 @@ fn has_name(p: Place, b: &[u8]) -> bool
     ensures { result ≡ has_name p b.now }
 {
     match p {
-        Place::Operator => {
-            if b.len() == 1 {
-                if b[0] == 0 { false } else { b[0] < 10 }
-            } else {
-                false
-            }
-        }
-        Place::Code => false,
-        Place::Data => false,
+        Place::Operator => matches!(b, [1..=9]),
+        Place::Code | Place::Data => false,
     }
 }
 
@@ -111,10 +81,13 @@ fn atom_length(p: Place, b: &[u8]) -> usize
     requires { length b.now ≤ atom_most }
     ensures { result ≡ length (atom_text p b.now) }
 {
-    if b.len() == 0 {
-        return 2;
+    if b.is_empty() {
+        2
+    } else if has_name(p, b) {
+        1
+    } else {
+        2 + 2 * b.len()
     }
-    if has_name(p, b) { 1 } else { 2 + 2 * b.len() }
 }
 
 // How many bytes the rest of a list has that is an atom.
@@ -122,11 +95,10 @@ fn last_length(p: Place, b: &[u8]) -> usize
     requires { length b.now ≤ atom_most }
     ensures { result ≡ length (text_rest (atom b.now) p) }
 {
-    if 0 < b.len() {
-        let k = atom_length(p, b);
-        4 + k
-    } else {
+    if b.is_empty() {
         1
+    } else {
+        4 + atom_length(p, b)
     }
 }
 
@@ -149,31 +121,14 @@ fn hex_digit(d: u8) -> u8
     if d < 10 { 0x30 + d } else { 0x57 + d }
 }
 
-fn high_digit(x: u8) -> u8
-    ensures { result ≡ hex_digit (x / 16) }
-{
-    hex_digit(x / 16)
-}
-
-fn low_digit(x: u8) -> u8
-    ensures { result ≡ hex_digit (x % 16) }
-{
-    hex_digit(x % 16)
-}
-
 // Two digits for each byte.
 fn put_hex(b: &[u8], out: &mut [u8])
     requires { (length b.now ≤ atom_most) × (2 * length b.now ≤ length out.old) }
     ensures { Wrote (hex b.now) (2 * length b.now) out.old out.new }
 {
-    let mut i: usize = 0;
-    while i < b.len() {
-        let x = b[i];
-        let h = high_digit(x);
-        let l = low_digit(x);
-        out[2 * i] = h;
-        out[2 * i + 1] = l;
-        i += 1;
+    for (i, x) in b.iter().enumerate() {
+        out[2 * i] = hex_digit(x / 16);
+        out[2 * i + 1] = hex_digit(x % 16);
     }
 }
 
@@ -192,14 +147,13 @@ fn put_atom(p: Place, b: &[u8], out: &mut [u8]) -> usize
     requires { (length b.now ≤ atom_most) × (length (atom_text p b.now) ≤ length out.old) }
     ensures { Wrote (atom_text p b.now) result out.old out.new }
 {
-    if b.len() == 0 {
+    if b.is_empty() {
         out[0] = 0x28;
         out[1] = 0x29;
         return 2;
     }
     if has_name(p, b) {
-        let c = name(b[0]);
-        out[0] = c;
+        out[0] = name(b[0]);
         return 1;
     }
     put_bytes(b, out)
@@ -210,16 +164,14 @@ fn put_last(p: Place, b: &[u8], out: &mut [u8]) -> usize
     requires { (length b.now ≤ atom_most) × (length (text_rest (atom b.now) p) ≤ length out.old) }
     ensures { Wrote (text_rest (atom b.now) p) result out.old out.new }
 {
-    let n = b.len();
-    if n == 0 {
+    if b.is_empty() {
         out[0] = 0x29;
         return 1;
     }
     out[0] = 0x20;
     out[1] = 0x2e;
     out[2] = 0x20;
-    let k = put_atom(p, b, &mut out[3..]);
-    let end = 3 + k;
+    let end = 3 + put_atom(p, b, &mut out[3..]);
     out[end] = 0x29;
     end + 1
 }
@@ -295,12 +247,9 @@ pub fn write_text<'a>(
         Cell::Pair(l, r) => {
             let q = part_place(p, rest);
             let o = after(form, room, l, q);
-            let c = first_byte(rest);
-            out[0] = c;
-            let k = write_text(form, room, l, q, false, &mut out[1..]);
-            let at = 1 + k;
-            let m = write_text(form, room, r, o, true, &mut out[at..]);
-            at + m
+            out[0] = first_byte(rest);
+            let at = 1 + write_text(form, room, l, q, false, &mut out[1..]);
+            at + write_text(form, room, r, o, true, &mut out[at..])
         }
         Cell::Atom => put_end(p, rest, store::atom_bytes(form, room, n), out),
     }

@@ -15,8 +15,8 @@ slice_bounds-write_text-count t c = search laws.after_first
 pub slice_bounds-write_text-start : goal.slice_bounds-write_text-start
 slice_bounds-write_text-start t c = search laws.after_first
 
-pub write_text-k-requires : goal.write_text-k-requires
-write_text-k-requires t c = (search parts.falls_left, (search parts.writable_left, search laws.left_fits))
+pub write_text-at-requires : goal.write_text-at-requires
+write_text-at-requires t c = (search parts.falls_left, (search parts.writable_left, search laws.left_fits))
 
 pub overflow_add-at : goal.overflow_add-at
 overflow_add-at t c = search laws.at_small
@@ -27,8 +27,8 @@ slice_bounds-write_text-count-in-Pair t c = search laws.at_within
 pub slice_bounds-write_text-start-in-Pair : goal.slice_bounds-write_text-start-in-Pair
 slice_bounds-write_text-start-in-Pair t c = search laws.at_within
 
-pub write_text-m-requires : goal.write_text-m-requires
-write_text-m-requires t c = (search parts.falls_right, (search parts.writable_right, search laws.right_fits))
+pub write_text-requires : goal.write_text-requires
+write_text-requires t c = (search parts.falls_right, (search parts.writable_right, search laws.right_fits))
 
 pub overflow_add-result : goal.overflow_add-result
 overflow_add-result t c = search laws.sum_small

@@ -1,43 +1,44 @@
 -- put_last: an answer for each need; what carries weight stands in the laws.
 use Rattle.text_writer.proofs.Endings as laws
+use Rattle.text_writer.proofs.Names as names
 use borrow.Author.Rules.{rules}
 use Rattle.text_writer.proofs.put_last.Goals as goal
 
 pub bounds-out-0 : goal.bounds-out-0
-bounds-out-0 c = search laws.last_nil_room
+bounds-out-0 c = search (laws.last_nil_room, names.no_bytes)
 
-pub returns-then-n-eq0 : goal.returns-then-n-eq0
-returns-then-n-eq0 c = search laws.last_nil_wrote
+pub returns-then-is_empty : goal.returns-then-is_empty
+returns-then-is_empty c = search (laws.last_nil_wrote, names.no_bytes)
 
 pub bounds-out-0-2 : goal.bounds-out-0-2
-bounds-out-0-2 c = search laws.dot_first
+bounds-out-0-2 c = search (laws.dot_first, names.some_bytes)
 
 pub bounds-out-1 : goal.bounds-out-1
-bounds-out-1 c = search laws.dot_second
+bounds-out-1 c = search (laws.dot_second, names.some_bytes)
 
 pub bounds-out-2 : goal.bounds-out-2
-bounds-out-2 c = search laws.dot_third
+bounds-out-2 c = search (laws.dot_third, names.some_bytes)
 
 pub slice_bounds-put_atom-count : goal.slice_bounds-put_atom-count
-slice_bounds-put_atom-count c = search laws.dot_start
+slice_bounds-put_atom-count c = search (laws.dot_start, names.some_bytes)
 
 pub slice_bounds-put_atom-start : goal.slice_bounds-put_atom-start
-slice_bounds-put_atom-start c = search laws.dot_start
+slice_bounds-put_atom-start c = search (laws.dot_start, names.some_bytes)
 
-pub put_atom-k-requires : goal.put_atom-k-requires
-put_atom-k-requires c = (search rules, search laws.dot_fits)
+pub put_atom-end-requires : goal.put_atom-end-requires
+put_atom-end-requires c = (search rules, search (laws.dot_fits, names.some_bytes))
 
 pub overflow_add-end : goal.overflow_add-end
-overflow_add-end c = search laws.end_small
+overflow_add-end c = search (laws.end_small, names.some_bytes)
 
 pub bounds-out-end : goal.bounds-out-end
-bounds-out-end c = search laws.end_within
+bounds-out-end c = search (laws.end_within, names.some_bytes)
 
 pub overflow_add-result : goal.overflow_add-result
-overflow_add-result c = search laws.end_sum
+overflow_add-result c = search (laws.end_sum, names.some_bytes)
 
 pub shape_of-out : goal.shape_of-out
-shape_of-out c = search laws.last_same
+shape_of-out c = search (laws.last_same, names.some_bytes)
 
 pub returns : goal.returns
-returns c = search laws.last_wrote
+returns c = search (laws.last_wrote, names.some_bytes)
