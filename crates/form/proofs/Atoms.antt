@@ -7,6 +7,7 @@ use lib.ListN.{length, get_or, take, drop, take-append-drop}
 use lib.Seq.{drop-cons, length-take-le}
 use lib.Dec.{leb}
 use borrow.Author.Tests.{lt-ltb, le-ltb, ne_eqb, le-leb, lt-leb}
+use Rattle.std.specs.Prelude.{Result, Ok, Err}
 use Rattle.refusals.specs.declared.Refusal.{Refusal}
 use Rattle.refusals.specs.declared.Refusal.TheVariants.{EndsEarly, AtomLong}
 use Rattle.meaning.specs.Tree.{Tree, atom, nil, byte}
@@ -15,8 +16,6 @@ use Rattle.meaning.specs.Meter.{done, M, ◌>>=◌, ◌>>◌, give, hold}
 use Rattle.meaning.specs.Form.{Reading, limits, next, first_of, body, length_from, spend, read_long, read_atom}
 use Rattle.meaning.proofs.MeterLaws.{bind_at, seq_at}
 use Rattle.meaning.proofs.ReaderLaws.{hold_at, body_at}
-use Rattle.form.specs.declared.Length.{Length}
-use Rattle.form.specs.declared.Length.TheVariants.{Long, Refused}
 use Rattle.form.specs.Spans.{span, left_from, Stops, stops, LengthTo, LengthOk}
 use Rattle.form.proofs.Spans.{span_long, span_take, span_drop, bind_stops, seq_stops, hold_stops, same_stops}
 
@@ -46,12 +45,12 @@ body_none f end at u n e h = short_body n (span f at end) u (omega (arith, span_
 after_length : ℕ → M Reading Tree
 after_length n = hold (leb n atom_limit) AtomLong >> (body n >>= λ bs. spend limits (atom_cost bs) >> give (atom bs))
 
-module _ (f : List ℕ) (end at p u : ℕ) (r : Length) (o : LengthOk f end at (length_from p) r) where
-  pub long_stops : (e : Refusal) → r ≡ Refused e → Stops (read_long limits p (left_from f at end u)) e
+module _ (f : List ℕ) (end at p u : ℕ) (r : Result (ℕ × ℕ) Refusal) (o : LengthOk f end at (length_from p) r) where
+  pub long_stops : (e : Refusal) → r ≡ Err e → Stops (read_long limits p (left_from f at end u)) e
   unfolding LengthOk read_long after_length
-  long_stops e i = let h : LengthOk f end at (length_from p) (Refused e) = rw i at o in bind_stops (length_from p) after_length (left_from f at end u) e (h.is u)
+  long_stops e i = let h : LengthOk f end at (length_from p) (Err e) = rw i at o in bind_stops (length_from p) after_length (left_from f at end u) e (h.is u)
 
-  module _ (n from : ℕ) (i : r ≡ Long n from) where
+  module _ (n from : ℕ) (i : r ≡ Ok (n, from)) where
     to : LengthTo f end at (length_from p) n from
     unfolding LengthOk
     to = rw i at o

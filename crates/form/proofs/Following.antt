@@ -11,6 +11,7 @@ use lib.Seq.{drop-cons, drop-drop, take_at, take_all, length-take-le}
 use mir.Syntax.{w64}
 use mir.Val.{Fits}
 use borrow.Author.Tests.{lt-ltb, eq-eqb, ne_eqb}
+use Rattle.std.specs.Cmp.Lexicographic.{pointwise}
 use Rattle.meaning.specs.Tree.{atom, same_bytes}
 use Rattle.meaning.specs.Form.{write, write_length, write_atom}
 use Rattle.meaning.proofs.Tests.{on_bool, leb_yes, not_true}
@@ -18,6 +19,7 @@ use Rattle.store.specs.declared.Cell.{Cell}
 use Rattle.store.specs.declared.Cell.TheVariants.{Pair, Atom}
 use Rattle.store.specs.Cells.{cell_at, bytes_at}
 use Rattle.store.specs.Nodes.{tree_at}
+use Rattle.store.proofs.Places.{whether}
 use Rattle.store.proofs.Trees.{tree_pair, tree_atom}
 use Rattle.form.specs.declared.Followed.{Followed}
 use Rattle.form.specs.declared.Followed.TheVariants.{To, Off}
@@ -71,12 +73,22 @@ module _ (f : List ℕ) (at : ℕ) where
 
 -- ---- stands_at
 
-pub few_left : (f b : List ℕ) (at : ℕ) → length f - at < length b → false ≡ stands f at b
-few_left f b at l = sym (stands_short f at b l)
+eqb_swap : (a b : ℕ) → eqb a b ≡ eqb b a
+eqb_swap a b = whether a b (λ e. rw e) (λ n. ne_eqb a b n ∙ sym (ne_eqb b a (λ e. n (sym e))))
 
-pub stands_part : (f b : List ℕ) (at : ℕ) (r : Bool) → r ≡ same_bytes (take (at + length b - at) (drop at f)) b → r ≡ stands f at b
+-- the two tests of bytes are one
+bytes_tested : (x y : List ℕ) → pointwise eqb y x ≡ same_bytes x y
+unfolding same_bytes
+bytes_tested [] [] = refl
+bytes_tested [] (b ∷ y) = refl
+bytes_tested (a ∷ x) [] = refl
+bytes_tested (a ∷ x) (b ∷ y) = rw (eqb_swap b a, bytes_tested x y)
+
+pub stands_part : (f b : List ℕ) (at : ℕ) (r : Bool) → r ≡ pointwise eqb b (take (length b) (take (length f - at) (drop at f))) → r ≡ stands f at b
 unfolding stands
-stands_part f b at r e = let z : at + length b - at ≡ length b = omega arith in e ∙ rw z
+stands_part f b at r e =
+    let z : take (length f - at) (drop at f) ≡ drop at f = take_all (length f - at) (drop at f) (simp length-drop (omega arith)) in
+    e ∙ rw z (bytes_tested (take (length b) (drop at f)) b)
 
 -- ---- followed
 

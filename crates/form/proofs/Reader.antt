@@ -8,6 +8,7 @@ use lib.Seq.{get_or-set_same}
 use borrow.Author.Tests.{le-leb}
 use mir.Syntax.{w64}
 use mir.Val.{Fits}
+use Rattle.std.specs.Prelude.{Result, Ok, Err}
 use Rattle.refusals.specs.declared.Refusal.{Refusal}
 use Rattle.refusals.specs.declared.Refusal.TheVariants.{EndsEarly, AtomLong, UnitsOut}
 use Rattle.meaning.specs.Tree.{Tree, atom, pair, byte}
@@ -23,12 +24,9 @@ use Rattle.store.specs.Nodes.{tree_at}
 use Rattle.store.specs.Store.{Held, Ready}
 use Rattle.store.specs.Makers.{Grown, Bought, Over, MadeOk}
 use Rattle.store.proofs.Ready.{small, nil_ready, grown_none, grown_both}
-use Rattle.form.specs.declared.Length.{Length}
-use Rattle.form.specs.declared.Length.TheVariants.{Long, Refused as no_length}
 use Rattle.form.specs.declared.Reading.{Reading as Answer}
 use Rattle.form.specs.declared.Reading.TheVariants.{Node, Refused}
 use Rattle.form.specs.declared.Closed.{Closed}
-use Rattle.form.specs.declared.Closed.TheVariants.{Node as closed_at, Refused as not-closed}
 use Rattle.form.specs.Spans.{span, left_from, next_tree, Stops, LengthOk}
 use Rattle.form.specs.Reads.{Stretch, ReadTo, ReadOk, reading_of}
 use Rattle.form.specs.Waits.{resume, Waits, ClosedTo, ClosedStops, ClosedOk}
@@ -69,12 +67,12 @@ made_read f s s' end at next c cost t o (not_made n) b e h k =
 
 -- ---- an atom with a prefix
 
-module _ (f s : List ℕ) (end at : ℕ) (c : Charges) (p : ℕ) (r : Length) (o : LengthOk f end at (length_from p) r) where
-  pub long_refused : (s' : List ℕ) (e : Refusal) → r ≡ no_length e → ReadOk f s s' end at c (read_long limits p (left_from f at end c.units)) (Refused e)
+module _ (f s : List ℕ) (end at : ℕ) (c : Charges) (p : ℕ) (r : Result (ℕ × ℕ) Refusal) (o : LengthOk f end at (length_from p) r) where
+  pub long_refused : (s' : List ℕ) (e : Refusal) → r ≡ Err e → ReadOk f s s' end at c (read_long limits p (left_from f at end c.units)) (Refused e)
   unfolding ReadOk
   long_refused s' e i = atoms.long_stops f end at p c.units r o e i
 
-  module _ (n from : ℕ) (i : r ≡ Long n from) where
+  module _ (n from : ℕ) (i : r ≡ Ok (n, from)) where
     pub long_wide : (s' : List ℕ) → 64 < n → ReadOk f s s' end at c (read_long limits p (left_from f at end c.units)) (Refused AtomLong)
     unfolding ReadOk
     long_wide s' h = atoms.long_wide f end at p c.units r o n from i h
@@ -146,18 +144,15 @@ pub close_starts : (f s w : List ℕ) (k q : ℕ) (c : Charges) → Ready f s c 
 close_starts f s w k q c r a = record { fewer = omega arith; grown = grown_none f s c r.held; ready = r; waits = a; free = refl; is = λ l. refl }
 
 module _ (f s₀ s w : List ℕ) (k q : ℕ) (c₀ c : Charges) (node left : ℕ) (a : Closing f s₀ s w k q c₀ c node left) where
-  closed : (0 < left → get_or w (left - 1) 0 ≡ 0xffff) → ClosedOk f s₀ s w k q c₀ (closed_at node left c)
+  closed : (0 < left → get_or w (left - 1) 0 ≡ 0xffff) → ClosedOk f s₀ s w k q c₀ (Ok (record { node = node; left = left; ch = c }))
   unfolding ClosedOk
   closed h = record { fewer = a.fewer; opened = h; grown = a.grown; ready = a.ready; free = a.free; is = a.is }
 
-  pub close_all : left ≤ 0 → ClosedOk f s₀ s w k q c₀ (closed_at node left c)
-  close_all h = closed (λ o. absurd (omega arith))
+  pub close_all : left ≤ 0 → ClosedOk f s₀ s w k q c₀ (Ok (record { node = node; left = 0; ch = c }))
+  close_all h = let z : left ≡ 0 = omega arith in rw (← z) (closed (λ o. absurd (omega arith)))
 
-  pub close_within : 0 < left → left - 1 < length w
-  close_within h = omega (arith, a.waits.within)
-
-  pub close_open : get_or w (left - 1) 0 ≡ 0xffff → ClosedOk f s₀ s w k q c₀ (closed_at node left c)
-  close_open z = closed (λ o. z)
+  pub close_open : 0 < left → get_or w (left - 1) 0 ≡ 0xffff → ClosedOk f s₀ s w k q c₀ (Ok (record { node = node; left = left - 1 + 1; ch = c }))
+  close_open h z = let y : left - 1 + 1 ≡ left = omega arith in rw y (closed (λ o. z))
 
   module _ (h : 0 < left) (n : get_or w (left - 1) 0 ≡ 0xffff → ⊥) where
     -- the left part that waits last
@@ -170,14 +165,11 @@ module _ (f s₀ s w : List ℕ) (k q : ℕ) (c₀ c : Charges) (node left : ℕ
     pub close_left : Ready f s c v
     close_left = a.waits.nodes (left - 1) (omega arith) n
 
-    pub close_wide : Fits w64 v
-    close_wide = let o : v < 65536 = small f s c v close_left in omega arith
-
     one_less : (l : List ℕ) → resume f s₀ w k (tree_at f s₀ q) (record { left = l; units = c₀.units }) ≡ resume f s w (suc (left - 1)) (tree_at f s node) (record { left = l; units = c.units })
     one_less l = a.is l ∙ ap (λ (j : ℕ). resume f s w j (tree_at f s node) (record { left = l; units = c.units })) less
 
     module _ (s₁ : List ℕ) (m : Made) (b : MadeOk f s s₁ c pair_cost (pair (tree_at f s v) (tree_at f s node)) m) where
-      pub close_over : (x : Refusal) → m ≡ not_made x → ClosedOk f s₀ s₁ w k q c₀ (not-closed x)
+      pub close_over : (x : Refusal) → m ≡ not_made x → ClosedOk f s₀ s₁ w k q c₀ (Err x)
       unfolding ClosedOk MadeOk
       close_over x i = let y : Over c pair_cost x = rw i at b in
           record {
@@ -289,45 +281,45 @@ module _ {f s₀ s w : List ℕ} {end at : ℕ} {c₀ c : Charges} {k next : ℕ
             ∙ bind_at next_tree (resume f s w k) (left_from f next end c.units) (left_from f m end c₁.units) (tree_at f s₁ q) to.is
             ∙ ap (λ (g : Tree → M Reading Tree). g (tree_at f s₁ q) (left_from f m end c₁.units)) (sym (resume_grown to.grown a.waits))
 
-        module _ (s₂ : List ℕ) {x : Closed} (b : ClosedOk f s₁ s₂ w k q c₁ x) where
-          pub going_over : {n : Refusal} → x ≡ not-closed n → ReadOk f s₀ s₂ end at c₀ (next_tree (left_from f at end c₀.units)) (Refused n)
+        module _ (s₂ : List ℕ) {x : Result Closed Refusal} (b : ClosedOk f s₁ s₂ w k q c₁ x) where
+          pub going_over : {n : Refusal} → x ≡ Err n → ReadOk f s₀ s₂ end at c₀ (next_tree (left_from f at end c₀.units)) (Refused n)
           unfolding ReadOk ClosedOk
           going_over {n} i = let y : ClosedStops f s₁ w k q c₁ n = rw i at b in same_stops whole (y.is (span f m end))
 
-          module _ {p j : ℕ} {d : Charges} (i : x ≡ closed_at p j d) where
-            by : ClosedTo f s₁ s₂ w k q c₁ d p j
+          module _ {z : Closed} (i : x ≡ Ok z) where
+            by : ClosedTo f s₁ s₂ w k q c₁ z.ch z.node z.left
             unfolding ClosedOk
             by = rw i at b
 
-            below : p < 65535
+            below : z.node < 65535
             below = let y = by.ready.held.store in omega (arith, by.ready.old, y.order, y.top)
 
-            pub going_small : p < 65536
+            pub going_small : z.node < 65536
             going_small = omega (arith, below)
 
-            pub going_scaled : Fits w64 ((j - 1) * 2)
+            pub going_scaled : Fits w64 ((z.left - 1) * 2)
             going_scaled = omega (arith, by.fewer, a.after, a.within, a.small)
 
-            pub going_place : (j ≡ 0 → ⊥) → j - 1 < length w
+            pub going_place : (z.left ≡ 0 → ⊥) → z.left - 1 < length w
             going_place n = omega (arith, by.fewer, a.waits.within)
 
-            pub going_done : j ≡ 0 → ReadOk f s₀ s₂ end at c₀ (next_tree (left_from f at end c₀.units)) (Node p m d)
+            pub going_done : z.left ≡ 0 → ReadOk f s₀ s₂ end at c₀ (next_tree (left_from f at end c₀.units)) (Node z.node m z.ch)
             unfolding ReadOk resume give
-            going_done z = record {
+            going_done g = record {
               after = omega (arith, a.after, to.after);
               within = to.within;
               grown = grown_both a.grown (grown_both to.grown by.grown);
               ready = by.ready;
               free = by.free ∙ to.free ∙ a.free;
-              is = whole ∙ by.is (span f m end) ∙ rw z;
+              is = whole ∙ by.is (span f m end) ∙ rw g;
             }
 
-            pub going_left : (j ≡ 0 → ⊥) → Going f s₀ s₂ (set w (j - 1) p) end at c₀ d j m
+            pub going_left : (z.left ≡ 0 → ⊥) → Going f s₀ s₂ (set w (z.left - 1) z.node) end at c₀ z.ch z.left m
             going_left n =
-                let z : j ≡ suc (j - 1) = omega arith in
-                let y : j - 1 < length w = going_place n in
-                let l : length (set w (j - 1) p) ≡ length w = length-set w (j - 1) p in
-                let v : Waits f s₂ w d (j - 1) = waits_fewer (j - 1) (omega (arith, by.fewer)) (waits_grown (grown_both to.grown by.grown) a.waits) in
+                let g : z.left ≡ suc (z.left - 1) = omega arith in
+                let y : z.left - 1 < length w = going_place n in
+                let l : length (set w (z.left - 1) z.node) ≡ length w = length-set w (z.left - 1) z.node in
+                let v : Waits f s₂ w z.ch (z.left - 1) = waits_fewer (z.left - 1) (omega (arith, by.fewer)) (waits_grown (grown_both to.grown by.grown) a.waits) in
                 record {
                   lent = a.lent;
                   small = a.small;
@@ -335,10 +327,10 @@ module _ {f s₀ s w : List ℕ} {end at : ℕ} {c₀ c : Charges} {k next : ℕ
                   after = omega (arith, a.after, to.after, by.fewer);
                   within = to.within;
                   grown = grown_both a.grown (grown_both to.grown by.grown);
-                  waits = subst (λ (i : ℕ). Waits f s₂ (set w (j - 1) p) d i) (sym z) (waits_set p v y (λ x. by.ready));
+                  waits = subst (λ (i : ℕ). Waits f s₂ (set w (z.left - 1) z.node) z.ch i) (sym g) (waits_set z.node v y (λ x. by.ready));
                   free = by.free ∙ to.free ∙ a.free;
                   is = whole ∙ by.is (span f m end)
-                      ∙ ap (λ (i : ℕ). resume f s₂ w i (tree_at f s₂ p) (left_from f m end d.units)) z
-                      ∙ resume_left f s₂ (set w (j - 1) p) (j - 1) w p (left_from f m end d.units) (by.opened (omega arith)) (get_or-set_same w (j - 1) p 0 y) (λ x. omega (arith, below)) (resume_set f s₂ w (j - 1) p)
-                      ∙ ap (λ (i : ℕ). (next_tree >>= resume f s₂ (set w (j - 1) p) i) (left_from f m end d.units)) (sym z);
+                      ∙ ap (λ (i : ℕ). resume f s₂ w i (tree_at f s₂ z.node) (left_from f m end z.ch.units)) g
+                      ∙ resume_left f s₂ (set w (z.left - 1) z.node) (z.left - 1) w z.node (left_from f m end z.ch.units) (by.opened (omega arith)) (get_or-set_same w (z.left - 1) z.node 0 y) (λ x. omega (arith, below)) (resume_set f s₂ w (z.left - 1) z.node)
+                      ∙ ap (λ (i : ℕ). (next_tree >>= resume f s₂ (set w (z.left - 1) z.node) i) (left_from f m end z.ch.units)) (sym g);
                 }

@@ -1,11 +1,9 @@
 -- A stretch of the lent bytes as the definition reads it.
-use Rattle.std.specs.Prelude.{ℕ, ◌-◌, ◌≤◌, ◌≡◌, List, length, take, drop}
+use Rattle.std.specs.Prelude.{ℕ, ◌-◌, ◌≤◌, ◌≡◌, List, length, take, drop, Result, Ok, Err}
 use Rattle.refusals.specs.declared.Refusal.{Refusal}
 use Rattle.meaning.specs.Tree.{Tree}
 use Rattle.meaning.specs.Meter.{Out, done, stop, M}
 use Rattle.meaning.specs.Form.{Reading, limits, read}
-use Rattle.form.specs.declared.Length.{Length}
-use Rattle.form.specs.declared.Length.TheVariants.{Long, Refused}
 
 -- the bytes of f from at to end
 unfoldable pub span : List ℕ → ℕ → ℕ → List ℕ
@@ -36,6 +34,6 @@ pub record LengthTo (f : List ℕ) (end at : ℕ) (m : M Reading ℕ) (n next : 
 pub record LengthStops (f : List ℕ) (end at : ℕ) (m : M Reading ℕ) (n : Refusal) : Type 0 where
   pub is : (u : ℕ) → Stops (m (left_from f at end u)) n
 
-unfoldable pub LengthOk : List ℕ → ℕ → ℕ → M Reading ℕ → Length → Type 0
-LengthOk f end at m (Long n next) = LengthTo f end at m n next
-LengthOk f end at m (Refused n) = LengthStops f end at m n
+unfoldable pub LengthOk : List ℕ → ℕ → ℕ → M Reading ℕ → Result (ℕ × ℕ) Refusal → Type 0
+LengthOk f end at m (Ok (n, next)) = LengthTo f end at m n next
+LengthOk f end at m (Err n) = LengthStops f end at m n

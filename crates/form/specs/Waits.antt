@@ -1,5 +1,5 @@
 -- The pairs that wait while a tree is read: each is its left part's node, or 0xffff while that part is still read.
-use Rattle.std.specs.Prelude.{ℕ, zero, suc, ◌-◌, ◌≤◌, ◌<◌, ◌≡◌, List, true, false, length, get_or, eqb}
+use Rattle.std.specs.Prelude.{ℕ, zero, suc, ◌-◌, ◌≤◌, ◌<◌, ◌≡◌, List, true, false, length, get_or, eqb, Result, Ok, Err}
 use Rattle.refusals.specs.declared.Refusal.{Refusal}
 use Rattle.meaning.specs.Tree.{Tree, pair}
 use Rattle.meaning.specs.Limits.{pair_cost}
@@ -10,7 +10,6 @@ use Rattle.store.specs.Nodes.{tree_at}
 use Rattle.store.specs.Store.{Ready}
 use Rattle.store.specs.Makers.{Grown}
 use Rattle.form.specs.declared.Closed.{Closed}
-use Rattle.form.specs.declared.Closed.TheVariants.{Node, Refused}
 use Rattle.form.specs.Spans.{next_tree, Stops}
 
 -- a pair, charged
@@ -52,6 +51,6 @@ pub record ClosedTo (f s s' w : List ℕ) (k q : ℕ) (c c' : Charges) (p j : �
 pub record ClosedStops (f s w : List ℕ) (k q : ℕ) (c : Charges) (n : Refusal) : Type 0 where
   pub is : (l : List ℕ) → Stops (resume f s w k (tree_at f s q) (record { left = l; units = c.units })) n
 
-unfoldable pub ClosedOk : List ℕ → List ℕ → List ℕ → List ℕ → ℕ → ℕ → Charges → Closed → Type 0
-ClosedOk f s s' w k q c (Node p j c') = ClosedTo f s s' w k q c c' p j
-ClosedOk f s s' w k q c (Refused n) = ClosedStops f s w k q c n
+unfoldable pub ClosedOk : List ℕ → List ℕ → List ℕ → List ℕ → ℕ → ℕ → Charges → Result Closed Refusal → Type 0
+ClosedOk f s s' w k q c (Ok z) = ClosedTo f s s' w k q c z.ch z.node z.left
+ClosedOk f s s' w k q c (Err n) = ClosedStops f s w k q c n

@@ -24,18 +24,12 @@ pub enum Reading {
     Refused(Refusal),
 }
 
-// A length that a prefix says and where the body begins, or a refusal.
+// The node that is whole, how many parts wait for it, and the charges.
 #[derive(Clone, Copy)]
-pub(crate) enum Length {
-    Long(usize, usize),
-    Refused(Refusal),
-}
-
-// The node that is whole, how many parts wait for it, and the charges; or a refusal.
-#[derive(Clone, Copy)]
-pub(crate) enum Closed {
-    Node(usize, usize, Charges),
-    Refused(Refusal),
+pub(crate) struct Closed {
+    pub(crate) node: usize,
+    pub(crate) left: usize,
+    pub(crate) ch: Charges,
 }
 
 // How many bytes a tree is written in, where a limit allows them.
@@ -85,36 +79,28 @@ const OPEN: u16 = 0xffff;
 
 // ---- the prefix of an atom
 
-fn wide(x: u8) -> usize
-    ensures { (result ≡ x) × (result < 256) }
-{
-    x as usize
-}
-
-// k bytes more of a length that begins with v, big-endian.
-fn more(form: &[u8], stop: usize, at: usize, k: usize, v: usize) -> Length
+// k bytes more of a length that begins with v, big-endian: the length, and where the body begins.
+fn more(form: &[u8], stop: usize, at: usize, k: usize, v: usize) -> Result<(usize, usize), Refusal>
     requires { (at ≤ stop) × (stop ≤ length form.now) × (k ≤ 4) × (v < 64) }
     ensures { LengthOk form.now stop at (more k v) result }
 {
-    let mut n = v;
-    let mut i: usize = 0;
-    while i < k {
-        if stop <= at + i {
-            return Length::Refused(Refusal::EndsEarly);
-        }
-        n = n * 256 + wide(form[at + i]);
-        i += 1;
+    if stop - at < k {
+        return Err(Refusal::EndsEarly);
     }
-    Length::Long(n, at + k)
+    let mut n = v;
+    for b in &form[at..at + k] {
+        n = n * 256 + *b as usize;
+    }
+    Ok((n, at + k))
 }
 
 // The length that the prefix p, from 80 on, says; the byte after it stands at at.
-fn length_from(form: &[u8], stop: usize, at: usize, p: usize) -> Length
+fn length_from(form: &[u8], stop: usize, at: usize, p: usize) -> Result<(usize, usize), Refusal>
     requires { (at ≤ stop) × (stop ≤ length form.now) × (128 ≤ p) × (p < 256) }
     ensures { LengthOk form.now stop at (length_from p) result }
 {
     if p < 0xc0 {
-        return Length::Long(p - 0x80, at);
+        return Ok((p - 0x80, at));
     }
     if p < 0xe0 {
         return more(form, stop, at, 1, p - 0xc0);
@@ -128,7 +114,7 @@ fn length_from(form: &[u8], stop: usize, at: usize, p: usize) -> Length
     if p < 0xfc {
         return more(form, stop, at, 4, p - 0xf8);
     }
-    Length::Refused(Refusal::BadPrefix)
+    Err(Refusal::BadPrefix)
 }
 
 // ---- reading
@@ -148,8 +134,8 @@ fn read_long(form: &[u8], room: &mut [u8], stop: usize, at: usize, p: usize, ch:
     ensures { ReadOk form.now room.old room.new stop at ch (read_long limits p (left_from form.now at stop ch.units)) result }
 {
     match length_from(form, stop, at, p) {
-        Length::Refused(e) => Reading::Refused(e),
-        Length::Long(n, from) => {
+        Err(e) => Reading::Refused(e),
+        Ok((n, from)) => {
             if ATOM < n {
                 return Reading::Refused(Refusal::AtomLong);
             }
@@ -166,7 +152,7 @@ fn read_atom(form: &[u8], room: &mut [u8], stop: usize, at: usize, ch: Charges) 
     requires { Held form.now room.old ch × Stretch form.now stop at × (at < stop) × (get_or form.now at 0 ≡ 255 → ⊥) }
     ensures { ReadOk form.now room.old room.new stop (at + 1) ch (next_tree (left_from form.now at stop ch.units)) result }
 {
-    let p = wide(form[at]);
+    let p = form[at] as usize;
     if p < 0x80 {
         return with_next(store::form_atom_node(form, room, ch, at, 1), at + 1);
     }
@@ -184,30 +170,34 @@ fn close<'a>(
     k: usize,
     q: usize,
     ch: Charges,
-) -> Closed
+) -> Result<Closed, Refusal>
     requires { Ready form.now room.old ch q × Waits form.now room.old wait.now ch k }
     ensures { ClosedOk form.now room.old room.new wait.now k q ch result }
 {
-    let mut left = k;
     let mut node = q;
     let mut spent = ch;
-    while 0 < left {
-        let v = wait[left - 1];
+    for i in (0..k).rev() {
+        let v = wait[i];
         if v == OPEN {
-            return Closed::Node(node, left, spent);
+            return Ok(Closed {
+                node,
+                left: i + 1,
+                ch: spent,
+            });
         }
         match store::pair_node(form, room, spent, v as usize, node) {
-            Made::Refused(over) => {
-                return Closed::Refused(over);
-            }
+            Made::Refused(over) => return Err(over),
             Made::Node(p, c) => {
                 node = p;
                 spent = c;
-                left -= 1;
             }
         }
     }
-    Closed::Node(node, left, spent)
+    Ok(Closed {
+        node,
+        left: 0,
+        ch: spent,
+    })
 }
 
 // One tree, from at on. A pair waits as OPEN while its left part is read, and as that part's node while its right part is: an entry, and
@@ -233,21 +223,17 @@ fn read_tree(
             next += 1;
         } else {
             match read_atom(form, room, stop, next, spent) {
-                Reading::Refused(e) => {
-                    return Reading::Refused(e);
-                }
+                Reading::Refused(e) => return Reading::Refused(e),
                 Reading::Node(q, m, c) => match close(form, room, wait, k, q, c) {
-                    Closed::Refused(over) => {
-                        return Reading::Refused(over);
-                    }
-                    Closed::Node(p, j, d) => {
-                        if j == 0 {
-                            return Reading::Node(p, m, d);
+                    Err(over) => return Reading::Refused(over),
+                    Ok(Closed { node, left, ch }) => {
+                        if left == 0 {
+                            return Reading::Node(node, m, ch);
                         }
-                        wait[j - 1] = p as u16;
-                        k = j;
+                        wait[left - 1] = node as u16;
+                        k = left;
                         next = m;
-                        spent = d;
+                        spent = ch;
                     }
                 },
             }
@@ -295,13 +281,11 @@ pub fn read_form(form: &[u8], room: &mut [u8], from: usize, stop: usize, ch: Cha
 fn needs_prefix(b: &[u8]) -> bool
     ensures { result ≡ needs_prefix b.now }
 {
-    if b.len() == 0 {
-        return false;
+    match b {
+        [] => false,
+        [x] => 0x80 <= *x,
+        _ => true,
     }
-    if b.len() == 1 {
-        return 0x80 <= b[0];
-    }
-    true
 }
 
 // How many bytes an atom of these is written in.
@@ -358,11 +342,7 @@ pub fn copy(src: &[u8], dst: &mut [u8])
     requires { length src.now ≤ length dst.old }
     ensures { dst.new ≡ src.now ++ drop (length src.now) dst.old }
 {
-    let mut i: usize = 0;
-    while i < src.len() {
-        dst[i] = src[i];
-        i += 1;
-    }
+    dst[..src.len()].copy_from_slice(src);
 }
 
 // An atom's bytes after a prefix of one byte.
@@ -433,10 +413,7 @@ pub fn stands_at<'a>(form: &'a [u8], at: usize, b: &'a [u8]) -> bool
     requires { at ≤ length form.now }
     ensures { result ≡ stands form.now at b.now }
 {
-    if form.len() - at < b.len() {
-        return false;
-    }
-    sexp::same_bytes(&form[at..at + b.len()], b)
+    form[at..].starts_with(b)
 }
 
 // The place after the atom of these bytes, if it stands written in form from at on.
@@ -460,10 +437,7 @@ pub fn follow_node<'a>(form: &'a [u8], room: &'a [u8], n: usize, at: usize) -> F
 {
     match store::look_node(room, n) {
         Cell::Pair(l, r) => {
-            if form.len() <= at {
-                return Followed::Off;
-            }
-            if form[at] != 0xff {
+            if form.len() <= at || form[at] != 0xff {
                 return Followed::Off;
             }
             match follow_node(form, room, l, at + 1) {
@@ -494,11 +468,7 @@ pub fn deliver_node<'a>(form: &'a [u8], room: &'a [u8], n: usize, out: &mut [u8]
 fn cut(forms: &[u8], first: usize) -> usize
     ensures { Cut forms.now first result }
 {
-    if first < forms.len() {
-        first
-    } else {
-        forms.len()
-    }
+    first.min(forms.len())
 }
 
 // Reads forms[..mid] and then the rest, on one budget of units, whatever the room held.

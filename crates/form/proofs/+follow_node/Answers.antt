@@ -3,12 +3,11 @@ use borrow.Author.Rules.{rules}
 use Rattle.form.proofs.Writer as laws
 use Rattle.form.proofs.Following as following
 use Rattle.form.proofs.+follow_node.Goals as goal
+use Rattle.form.proofs.+follow_node.Goals.{then-form-at-via-then-form-at, then-form-at-via-else-form-at+then-form-at-2}
 
 pub returns-then-form-at : goal.returns-then-form-at
-returns-then-form-at t c = search following.pair_none
-
-pub returns-then-form-at-2 : goal.returns-then-form-at-2
-returns-then-form-at-2 t c = search following.pair_other
+returns-then-form-at t c =
+    elim c.then-form-at.branch [ then-form-at-via-then-form-at w ↦ search following.pair_none | then-form-at-via-else-form-at+then-form-at-2 w ↦ search following.pair_other ]
 
 pub follow_node-requires : goal.follow_node-requires
 follow_node-requires t c = (search laws.falls_left, (search laws.writable_left, search rules))

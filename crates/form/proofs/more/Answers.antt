@@ -1,8 +1,8 @@
 use Rattle.form.proofs.Lengths as laws
 use Rattle.form.proofs.more.Goals as goal
 
-pub loop-i-init : goal.loop-i-init
-loop-i-init c = search laws.count_starts
+pub loop-b-init : goal.loop-b-init
+loop-b-init c = search laws.count_starts
 
 pub returns-then-stop-at : goal.returns-then-stop-at
 returns-then-stop-at c = search laws.count_none
@@ -13,8 +13,8 @@ overflow_mul-n c = search laws.count_times
 pub overflow_add-n : goal.overflow_add-n
 overflow_add-n c = search laws.count_plus
 
-pub loop-i-preserved : goal.loop-i-preserved
-loop-i-preserved c = search laws.count_turn
+pub loop-b-preserved : goal.loop-b-preserved
+loop-b-preserved c = search laws.count_turn
 
 pub returns : goal.returns
 returns c = search laws.count_ends

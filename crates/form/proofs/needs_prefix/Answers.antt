@@ -1,11 +1,12 @@
+use native.Mathlib.Omega.{arith}
 use Rattle.form.proofs.Lengths as laws
 use Rattle.form.proofs.needs_prefix.Goals as goal
 
-pub returns-then-b-eq0 : goal.returns-then-b-eq0
-returns-then-b-eq0 c = search laws.prefix_none
+pub returns-in-empty : goal.returns-in-empty
+returns-in-empty c = laws.prefix_none _ (omega arith)
 
-pub returns-then-b-eq1 : goal.returns-then-b-eq1
-returns-then-b-eq1 c = search laws.prefix_one
+pub returns-in-len1 : goal.returns-in-len1
+returns-in-len1 c = laws.prefix_one _ (omega arith)
 
-pub returns : goal.returns
-returns c = search laws.prefix_more
+pub returns-in_default : goal.returns-in_default
+returns-in_default c = laws.prefix_more _ c.in_default.len_at_least

@@ -14,8 +14,8 @@ returns-then-stop-from c = search laws.long_ends
 pub form_atom_node-requires : goal.form_atom_node-requires
 form_atom_node-requires c = (search rules, search laws.long_place, search laws.long_part, search rules)
 
-pub returns-in-Refused : goal.returns-in-Refused
-returns-in-Refused c = search laws.long_refused
+pub returns-in-Err : goal.returns-in-Err
+returns-in-Err c = search laws.long_refused
 
 pub returns-else-stop-from : goal.returns-else-stop-from
 returns-else-stop-from c = search laws.long_made

@@ -22,23 +22,23 @@ returns-in-Refused c = search laws.going_refused
 pub close-requires : goal.close-requires
 close-requires c = (laws.going_ready c.loop-next.invariant.0 c.loop-next-test.true _ c.read_atom.ensures c.in-Node.is, laws.going_waits c.loop-next.invariant.0 c.loop-next-test.true _ c.read_atom.ensures c.in-Node.is)
 
-pub returns-in-Refused-close : goal.returns-in-Refused-close
-returns-in-Refused-close c = search laws.going_over
+pub returns-in-Err : goal.returns-in-Err
+returns-in-Err c = search laws.going_over
 
-pub shape_of-room-then-j-eq0 : goal.shape_of-room-then-j-eq0
-shape_of-room-then-j-eq0 c = omega (arith, c.loop-next.invariant.0.grown.long)
+pub shape_of-room-then-left-eq0 : goal.shape_of-room-then-left-eq0
+shape_of-room-then-left-eq0 c = omega (arith, c.loop-next.invariant.0.grown.long)
 
-pub returns-then-j-eq0 : goal.returns-then-j-eq0
-returns-then-j-eq0 c = search laws.going_done
+pub returns-then-left-eq0 : goal.returns-then-left-eq0
+returns-then-left-eq0 c = search laws.going_done
 
 pub overflow_cast-wait : goal.overflow_cast-wait
 overflow_cast-wait c = search laws.going_small
 
-pub offset_bounds-wait-j : goal.offset_bounds-wait-j
-offset_bounds-wait-j c = search laws.going_scaled
+pub offset_bounds-wait-left : goal.offset_bounds-wait-left
+offset_bounds-wait-left c = search laws.going_scaled
 
-pub bounds-wait-j : goal.bounds-wait-j
-bounds-wait-j c = search laws.going_place
+pub bounds-wait-left : goal.bounds-wait-left
+bounds-wait-left c = search laws.going_place
 
 pub loop-next-smaller : goal.loop-next-smaller
 loop-next-smaller c = search laws.going_less

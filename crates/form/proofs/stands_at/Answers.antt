@@ -2,8 +2,5 @@
 use Rattle.form.proofs.Following as following
 use Rattle.form.proofs.stands_at.Goals as goal
 
-pub returns-then-form-at : goal.returns-then-form-at
-returns-then-form-at c = search following.few_left
-
 pub returns : goal.returns
 returns c = search following.stands_part
