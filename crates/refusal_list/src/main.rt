@@ -3,6 +3,34 @@
 
 use refusals::Refusal;
 
+// Each refusal of 01 and of the requests for text and reports, with the words for it.
+const LINES: [(Refusal, &[u8]); 17] = [
+    (Refusal::RoomSmall, b"lent working room too small"),
+    (Refusal::FormLong, b"form over 8,192 bytes"),
+    (Refusal::EndsEarly, b"form ends early; the empty form too"),
+    (Refusal::BadPrefix, b"prefix not carried: fc, fd or fe"),
+    (Refusal::AtomLong, b"atom over 64 bytes"),
+    (Refusal::BytesAfter, b"bytes after the form"),
+    (Refusal::UnitsOut, b"units run out"),
+    (Refusal::Fails, b"evaluation fails"),
+    (
+        Refusal::NoOperator,
+        b"evaluation meets an operator not carried, or an operator that is a pair",
+    ),
+    (Refusal::StepsOut, b"a 4,097th evaluation step"),
+    (
+        Refusal::PathLong,
+        b"the path rule's result needs over 64 bytes",
+    ),
+    (Refusal::PassesOut, b"a 65,537th pass"),
+    (Refusal::TooDeep, b"a driver call at nesting 65"),
+    (Refusal::OutputShort, b"result longer than the output"),
+    (Refusal::NoParse, b"text that does not parse"),
+    (Refusal::TextLong, b"text over 32,768 bytes"),
+    (Refusal::ReportFull, b"a 4,097th form of a report"),
+];
+
+// One line: the number and the words.
 fn line(r: Refusal, words: &[u8]) {
     io::print_decimal(1, refusals::number_of(r) as u64);
     io::write_all(1, b" ");
@@ -10,44 +38,8 @@ fn line(r: Refusal, words: &[u8]) {
     io::write_all(1, b"\n");
 }
 
-fn reading() {
-    line(Refusal::RoomSmall, b"lent working room too small");
-    line(Refusal::FormLong, b"form over 8,192 bytes");
-    line(Refusal::EndsEarly, b"form ends early; the empty form too");
-    line(Refusal::BadPrefix, b"prefix not carried: fc, fd or fe");
-    line(Refusal::AtomLong, b"atom over 64 bytes");
-    line(Refusal::BytesAfter, b"bytes after the form");
-}
-
-fn working() {
-    line(Refusal::UnitsOut, b"units run out");
-    line(Refusal::Fails, b"evaluation fails");
-    line(
-        Refusal::NoOperator,
-        b"evaluation meets an operator not carried, or an operator that is a pair",
-    );
-    line(Refusal::StepsOut, b"a 4,097th evaluation step");
-    line(
-        Refusal::PathLong,
-        b"the path rule's result needs over 64 bytes",
-    );
-    line(Refusal::PassesOut, b"a 65,537th pass");
-    line(Refusal::TooDeep, b"a driver call at nesting 65");
-    line(Refusal::OutputShort, b"result longer than the output");
-}
-
-fn of_text() {
-    line(Refusal::NoParse, b"text that does not parse");
-    line(Refusal::TextLong, b"text over 32,768 bytes");
-}
-
-fn of_report() {
-    line(Refusal::ReportFull, b"a 4,097th form of a report");
-}
-
 fn main() {
-    reading();
-    working();
-    of_text();
-    of_report();
+    for (r, words) in LINES {
+        line(r, words);
+    }
 }

@@ -1,64 +1,39 @@
 -- A number belongs to one refusal, and none is 0. Assumes nothing.
-use mathlib.Core.Path.{◌≡◌, refl, sym, ◌∙◌, ap}
-use mathlib.Core.List.{List, [], ◌∷◌}
-use Prim.Native.Nat.{ℕ, ◌≤◌}
+use mathlib.Core.Path.{◌≡◌, refl}
+use Prim.Native.Nat.{◌+◌, ◌≤◌}
 use native.Mathlib.Omega.{arith}
-use lib.ListN.{get_or}
+use denote.Enum.Declared.{tag_of}
+use denote.Enum.Bare.{tag_one}
 use Rattle.refusals.specs.declared.Refusal.{Refusal}
 use Rattle.refusals.specs.declared.Refusal.TheVariants.{RoomSmall, FormLong, EndsEarly, BadPrefix, AtomLong, BytesAfter, UnitsOut, Fails, NoOperator, StepsOut, PathLong, PassesOut, TooDeep, OutputShort, NoParse, TextLong, ReportFull, NotATrace, TraceCut, TraceLong}
+use Rattle.refusals.specs.contracts.Refusal.{the_type}
 use Rattle.refusals.specs.Numbers.{number_of}
 
-refusals : List Refusal
-refusals = RoomSmall ∷ RoomSmall ∷ FormLong ∷ EndsEarly ∷ BadPrefix ∷ AtomLong ∷ BytesAfter ∷ UnitsOut ∷ Fails ∷ NoOperator ∷ StepsOut ∷ PathLong ∷ PassesOut ∷ TooDeep ∷ OutputShort ∷ NoParse ∷ TextLong ∷ ReportFull ∷ NotATrace ∷ TraceCut ∷ TraceLong ∷ []
-
-at_number : (n : Refusal) → get_or refusals (number_of n) RoomSmall ≡ n
-unfolding refusals
-at_number RoomSmall = refl
-at_number FormLong = refl
-at_number EndsEarly = refl
-at_number BadPrefix = refl
-at_number AtomLong = refl
-at_number BytesAfter = refl
-at_number UnitsOut = refl
-at_number Fails = refl
-at_number NoOperator = refl
-at_number StepsOut = refl
-at_number PathLong = refl
-at_number PassesOut = refl
-at_number TooDeep = refl
-at_number OutputShort = refl
-at_number NoParse = refl
-at_number TextLong = refl
-at_number ReportFull = refl
-at_number NotATrace = refl
-at_number TraceCut = refl
-at_number TraceLong = refl
-
--- a refusal that has a name has its number
-pub named : (r q : Refusal) → r ≡ q → number_of q ≡ number_of r
-named r q e = ap number_of (sym e)
+-- the numbers go by the variants' places, from 1 on
+placed : (n : Refusal) → number_of n ≡ tag_of the_type n + 1
+placed RoomSmall = refl
+placed FormLong = refl
+placed EndsEarly = refl
+placed BadPrefix = refl
+placed AtomLong = refl
+placed BytesAfter = refl
+placed UnitsOut = refl
+placed Fails = refl
+placed NoOperator = refl
+placed StepsOut = refl
+placed PathLong = refl
+placed PassesOut = refl
+placed TooDeep = refl
+placed OutputShort = refl
+placed NoParse = refl
+placed TextLong = refl
+placed ReportFull = refl
+placed NotATrace = refl
+placed TraceCut = refl
+placed TraceLong = refl
 
 pub number_only : (m n : Refusal) → number_of m ≡ number_of n → m ≡ n
-number_only m n e = sym (at_number m) ∙ ap (λ (k : ℕ). get_or refusals k RoomSmall) e ∙ at_number n
+number_only m n e = tag_one the_type tt m n (omega (arith, placed m, placed n, e))
 
 pub number_least : (n : Refusal) → 1 ≤ number_of n
-number_least RoomSmall = omega arith
-number_least FormLong = omega arith
-number_least EndsEarly = omega arith
-number_least BadPrefix = omega arith
-number_least AtomLong = omega arith
-number_least BytesAfter = omega arith
-number_least UnitsOut = omega arith
-number_least Fails = omega arith
-number_least NoOperator = omega arith
-number_least StepsOut = omega arith
-number_least PathLong = omega arith
-number_least PassesOut = omega arith
-number_least TooDeep = omega arith
-number_least OutputShort = omega arith
-number_least NoParse = omega arith
-number_least TextLong = omega arith
-number_least ReportFull = omega arith
-number_least NotATrace = omega arith
-number_least TraceCut = omega arith
-number_least TraceLong = omega arith
+number_least n = omega (arith, placed n)
