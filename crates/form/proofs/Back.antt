@@ -1,4 +1,6 @@
 -- Demand 2's last sentence about the function `write` itself: "writing and reading again gives the same tree, and the bytes return exactly when they were shortest". Assumes nothing.
+use Rattle.refusals.specs.declared.Refusal.{Refusal}
+use Rattle.std.specs.Prelude.{Result, Ok, Err, Option, Some, None}
 use Prim.Native.Nat.{ℕ, ◌≤◌}
 use mathlib.Core.Path.{◌≡◌, refl, sym, ◌∙◌, ap, subst}
 use mathlib.Core.List.{List, [], ◌∷◌}
@@ -17,9 +19,7 @@ use Rattle.meaning.specs.Outcome.{plain, Outcome, answered, refused, deliver, de
 use Rattle.meaning.proofs.ReadWrite.{form_read}
 use Rattle.meaning.proofs.Shortest.{read_again, no_longer, back_exactly}
 use Rattle.meaning.proofs.Lent.{room_enough, told_answer}
-use Rattle.form.specs.declared.ReadAnswer.TheVariants.{Read}
-use Rattle.form.specs.declared.WriteAnswer.{WriteAnswer}
-use Rattle.form.specs.declared.WriteAnswer.TheVariants.{Written}
+use Rattle.form.specs.declared.Written.{Written}
 use Rattle.form.specs.Both.{read_both}
 use Rattle.form.specs.Bytes.{delivered_read, read_outcome, delivered_write, write_outcome, read_says, write_says}
 use Rattle.form.proofs.OnlyOne.{write_lossless}
@@ -77,7 +77,7 @@ pub record WroteBack (form out' : List ℕ) (n units : ℕ) : Type 0 where
   pub front : take n out' ≡ write tree
 
 module _ (form room out room' out' : List ℕ) where
-  wrote_back : (n units : ℕ) → Settles write_says (write_outcome form (length room) (length out)) room room' out out' (Written n units) → WroteBack form out' n units
+  wrote_back : (n units : ℕ) → Settles write_says (write_outcome form (length room) (length out)) room room' out out' (Ok (record { length = n; units = units })) → WroteBack form out' n units
   unfolding write_says
   wrote_back n units h =
       let t = told_answer (write_outcome form (length room) (length out)) plain (n ∷ units ∷ []) out out' h.delivers.answer h.delivers.out in
@@ -89,14 +89,14 @@ module _ (form room out room' out' : List ℕ) where
 
   module _ (b : IsBytes form) where
     -- What `write` answers reads again as the form does: the same tree, for the same units, which are those that it tells.
-    pub writes_again : (n units : ℕ) → Settles write_says (write_outcome form (length room) (length out)) room room' out out' (Written n units)
+    pub writes_again : (n units : ℕ) → Settles write_says (write_outcome form (length room) (length out)) room room' out out' (Ok (record { length = n; units = units }))
         → (t : Tree) × (s : Reading) × (read_form form 0 ≡ done t s) × (read_form (take n out') 0 ≡ done t s) × (units ≡ s.units)
     writes_again n units h =
         let w = wrote_back n units h in
         (w.tree, w.after, w.is, ap (λ (f : List ℕ). read_form f 0) w.front ∙ read_again form b w.tree w.after 0 (omega arith) w.is, w.cost)
 
     -- It is the form itself exactly when the form was shortest, and never longer.
-    pub writes_back : (n units : ℕ) → Settles write_says (write_outcome form (length room) (length out)) room room' out out' (Written n units)
+    pub writes_back : (n units : ℕ) → Settles write_says (write_outcome form (length room) (length out)) room room' out out' (Ok (record { length = n; units = units }))
         → ((take n out' ≡ form) ↔ Shortest form) × (n ≤ length form)
     writes_back n units h =
         let w = wrote_back n units h in
@@ -106,9 +106,9 @@ module _ (form room out room' out' : List ℕ) where
         ((λ i. e.0 (sym w.front ∙ i), λ i. w.front ∙ e.1 i), omega arith)
 
     -- And every form that `read` answers, `write` does, where room and output are large enough.
-    pub read_is_written : (s s' : List ℕ) (units : ℕ) (a : WriteAnswer) → Settles read_says (read_outcome form (length s)) s s' [] [] (Read units)
+    pub read_is_written : (s s' : List ℕ) (units : ℕ) (a : Result Written Refusal) → Settles read_says (read_outcome form (length s)) s s' [] [] (Ok units)
         → Settles write_says (write_outcome form (length room) (length out)) room room' out out' a → room_least ≤ length room → length form ≤ length out
-        → (n : ℕ) × (a ≡ Written n units)
+        → (n : ℕ) × (a ≡ Ok (record { length = n; units = units }))
     unfolding read_says write_says write_outcome ended delivered_write deliver_tree deliver told
     read_is_written s s' units a h k l m =
         let t = told_answer (read_outcome form (length s)) plain (units ∷ []) [] [] h.delivers.answer h.delivers.out in
@@ -116,7 +116,7 @@ module _ (form room out room' out' : List ℕ) where
         let i : units ∷ [] ≡ w.after.units ∷ [] = w.numbers_are in
         let j : units ≡ w.after.units = cc in (
           length (write w.tree),
-          write_lossless.same a (Written (length (write w.tree)) units)
+          write_lossless.same a (Ok (record { length = (length (write w.tree)); units = units }))
               (k.delivers.answer ∙ ap told (outcome_is w.tree w.after w.is) ∙ ap (λ (y : ℕ). told (answered (write w.tree) plain (length (write w.tree) ∷ y ∷ []))) (sym j)),
         )
       where

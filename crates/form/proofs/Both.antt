@@ -1,4 +1,5 @@
 -- Two forms, read one after the other: what each call and each return needs. Assumes nothing.
+use Rattle.std.specs.Prelude.{Result, Ok, Err, Option, Some, None}
 use Prim.Native.Nat.{ℕ, ◌+◌, ◌-◌, ◌≤◌}
 use mathlib.Core.Path.{◌≡◌, refl, sym, ◌∙◌, ap}
 use mathlib.Core.List.{List}
@@ -18,13 +19,11 @@ use Rattle.meaning.proofs.MeterLaws.{not_stop}
 use Rattle.meaning.proofs.Late.{Touched, late_read}
 use Rattle.store.specs.declared.Charges.{Charges}
 use Rattle.store.specs.declared.Made.{Made}
-use Rattle.store.specs.declared.Made.TheVariants.{Node as made, Refused as not_made}
 use Rattle.store.specs.Nodes.{tree_at}
 use Rattle.store.specs.Store.{Held}
 use Rattle.store.specs.Makers.{Begun}
 use Rattle.store.proofs.Ready.{grown_ready, grown_tree}
 use Rattle.form.specs.declared.Two.{Two}
-use Rattle.form.specs.declared.Two.TheVariants.{Nodes, Refused}
 use Rattle.form.specs.Spans.{span, left_from, Stops, stops}
 use Rattle.form.specs.Reads.{ReadTo, FormOk}
 use Rattle.form.specs.Both.{Both, read_both, Cut, TwoOk}
@@ -83,12 +82,12 @@ read_fits bs u t r h = go (leb (length bs) form_limit) refl h
 -- ---- the code
 
 -- one form was read to the node q
-module _ (f s s₁ : List ℕ) (end from : ℕ) (c c₁ : Charges) (r : Made) (q : ℕ) (e : r ≡ made q c₁) (o : FormOk f s s₁ end from c r) where
-  read : ReadTo f s s₁ end from c c₁ (read_form (span f from end) c.units) q end
+module _ (f s s₁ : List ℕ) (end from : ℕ) (c : Charges) (r : Result Made Refusal) (x : Made) (e : r ≡ Ok x) (o : FormOk f s s₁ end from c r) where
+  read : ReadTo f s s₁ end from c x.ch (read_form (span f from end) c.units) x.node end
   unfolding FormOk
   read = rw e at o
 
-  pub read_held : Held f s₁ c₁
+  pub read_held : Held f s₁ x.ch
   read_held = read.ready.held
 
   pub read_within : end ≤ length f → end ≤ from + form_limit
@@ -106,39 +105,45 @@ module _ (f : List ℕ) (mid : ℕ) (within : mid ≤ length f) where
   abbrev whole : Out Reading Both
   whole = read_both (take mid f) (drop mid f)
 
-  module _ (s s₁ : List ℕ) (c : Charges) (b : Begun f s c) (r : Made) (o : FormOk f s s₁ mid 0 c r) where
-    pub first_refused : (n : Refusal) → r ≡ not_made n → TwoOk f s₁ whole (Refused n)
+  module _ (s s₁ : List ℕ) (c : Charges) (b : Begun f s c) (r : Result Made Refusal) (o : FormOk f s s₁ mid 0 c r) where
+    pub first_refused : (n : Refusal) → r ≡ Err n → TwoOk f s₁ whole (Err n)
     unfolding FormOk TwoOk
     first_refused n e =
         let y : Stops (read_form (span f 0 mid) c.units) n = rw e at o in
         first_stops (take mid f) (drop mid f) n (rw (front, b.units) at y)
 
-    module _ (p : ℕ) (c₁ : Charges) (e : r ≡ made p c₁) where
+    module _ (x : Made) (e : r ≡ Ok x) where
+      abbrev p : ℕ
+      p = x.node
+
+      abbrev c₁ : Charges
+      c₁ = x.ch
+
       first : ReadTo f s s₁ mid 0 c c₁ (read_form (span f 0 mid) c.units) p mid
-      first = read f s s₁ mid 0 c c₁ r p e o
+      first = read f s s₁ mid 0 c r x e o
 
       first_is : read_form (take mid f) 0 ≡ done (tree_at f s₁ p) (left_from f mid mid c₁.units)
       first_is = rw (front, b.units) at first.is
 
-      module _ (s₂ : List ℕ) (r₂ : Made) (o₂ : FormOk f s₁ s₂ (length f) mid c₁ r₂) where
-        pub second_refused : (n : Refusal) → r₂ ≡ not_made n → TwoOk f s₂ whole (Refused n)
+      module _ (s₂ : List ℕ) (r₂ : Result Made Refusal) (o₂ : FormOk f s₁ s₂ (length f) mid c₁ r₂) where
+        pub second_refused : (n : Refusal) → r₂ ≡ Err n → TwoOk f s₂ whole (Err n)
         unfolding FormOk TwoOk
         second_refused n e₂ =
             let y : Stops (read_form (span f mid (length f)) c₁.units) n = rw e₂ at o₂ in
             second_stops (take mid f) (drop mid f) (tree_at f s₁ p) (left_from f mid mid c₁.units) first_is n (rw back at y)
 
-        pub both_nodes : (v : ℕ) (c₂ : Charges) → r₂ ≡ made v c₂ → TwoOk f s₂ whole (Nodes p v c₂)
+        pub both_nodes : (y : Made) → r₂ ≡ Ok y → TwoOk f s₂ whole (Ok (record { first = x.node; second = y.node; ch = y.ch }))
         unfolding TwoOk
-        both_nodes v c₂ e₂ =
-            let to : ReadTo f s₁ s₂ (length f) mid c₁ c₂ (read_form (span f mid (length f)) c₁.units) v (length f) = read f s₁ s₂ (length f) mid c₁ c₂ r₂ v e₂ o₂ in
-            let is : read_form (drop mid f) c₁.units ≡ done (tree_at f s₂ v) (left_from f (length f) (length f) c₂.units) = rw back at to.is in
+        both_nodes y e₂ =
+            let to : ReadTo f s₁ s₂ (length f) mid c₁ y.ch (read_form (span f mid (length f)) c₁.units) y.node (length f) = read f s₁ s₂ (length f) mid c₁ r₂ y e₂ o₂ in
+            let is : read_form (drop mid f) c₁.units ≡ done (tree_at f s₂ y.node) (left_from f (length f) (length f) y.ch.units) = rw back at to.is in
             record {
               first = grown_ready to.grown first.ready;
               second = to.ready;
-              is = both_read (take mid f) (drop mid f) (tree_at f s₁ p) (left_from f mid mid c₁.units) first_is (tree_at f s₂ v) (left_from f (length f) (length f) c₂.units) is
-                  ∙ ap (λ (t : Tree). done (record { one = t; other = tree_at f s₂ v }) (left_from f (length f) (length f) c₂.units)) (sym (grown_tree to.grown first.ready));
+              is = both_read (take mid f) (drop mid f) (tree_at f s₁ p) (left_from f mid mid c₁.units) first_is (tree_at f s₂ y.node) (left_from f (length f) (length f) y.ch.units) is
+                  ∙ ap (λ (t : Tree). done (record { one = t; other = tree_at f s₂ y.node }) (left_from f (length f) (length f) y.ch.units)) (sym (grown_tree to.grown first.ready));
             }
 
 -- where the cut stands, both parts are the definition's
-pub cut_two : (f s₁ : List ℕ) (n mid : ℕ) (r : Two) → Cut f n mid → TwoOk f s₁ (read_both (take mid f) (drop mid f)) r → TwoOk f s₁ (read_both (take n f) (drop n f)) r
+pub cut_two : (f s₁ : List ℕ) (n mid : ℕ) (r : Result Two Refusal) → Cut f n mid → TwoOk f s₁ (read_both (take mid f) (drop mid f)) r → TwoOk f s₁ (read_both (take n f) (drop n f)) r
 cut_two f s₁ n mid r c h = rw (← c.front, ← c.back) h

@@ -1,4 +1,5 @@
 -- Reading and writing on bytes alone: what each return needs. Assumes nothing.
+use Rattle.std.specs.Prelude.{Result, Ok, Err, Option, Some, None}
 use mathlib.Core.Path.{◌≡◌, refl, sym}
 use mathlib.Core.List.{List, [], ◌∷◌}
 use Prim.Native.Nat.{ℕ, zero, suc, ◌<◌, ◌≤◌}
@@ -16,16 +17,11 @@ use Rattle.store.specs.declared.Charges.{Charges}
 use Rattle.store.specs.declared.Cell.{Cell}
 use Rattle.store.specs.declared.Cell.TheVariants.{Pair, Atom}
 use Rattle.store.specs.declared.Made.{Made}
-use Rattle.store.specs.declared.Made.TheVariants.{Node as made, Refused as not_made}
 use Rattle.store.specs.Cells.{cell_at, bytes_at}
 use Rattle.store.specs.Nodes.{tree_at}
 use Rattle.store.specs.Store.{Ready}
 use Rattle.store.proofs.Ready as ready
-use Rattle.form.specs.declared.Extent.{Extent}
-use Rattle.form.specs.declared.Extent.TheVariants.{Long, Over}
-use Rattle.form.specs.declared.ReadAnswer.TheVariants.{Read, Refused as not_read}
-use Rattle.form.specs.declared.WriteAnswer.{WriteAnswer}
-use Rattle.form.specs.declared.WriteAnswer.TheVariants.{Written, Refused as not_written}
+use Rattle.form.specs.declared.Written.{Written}
 use Rattle.form.specs.Spans.{Stops, stops}
 use Rattle.form.specs.Reads.{WholeTo, WholeOk}
 use Rattle.form.specs.Writes.{Short, Writable, Delivered}
@@ -51,25 +47,25 @@ node_writable f s c n h = record { room = ready.room f s c n h; short = go (suc 
 
 -- ---- delivering
 
-module _ (t : Tree) (units : ℕ) (w w₁ : List ℕ) (r : Extent) (d : Delivered (write t) w w₁ r) where
-  pub deliver_short : r ≡ Over → Delivers write_says (deliver_tree (length w) t (units ∷ [])) w w₁ (not_written OutputShort)
+module _ (t : Tree) (units : ℕ) (w w₁ : List ℕ) (r : Option ℕ) (d : Delivered (write t) w w₁ r) where
+  pub deliver_short : r ≡ None → Delivers write_says (deliver_tree (length w) t (units ∷ [])) w w₁ (Err OutputShort)
   unfolding write_says
-  deliver_short i = tree_short write_says t (units ∷ []) w w₁ r d (not_written OutputShort) refl i
+  deliver_short i = tree_short write_says t (units ∷ []) w w₁ r d (Err OutputShort) refl i
 
-  pub deliver_done : (k : ℕ) → r ≡ Long k → Delivers write_says (deliver_tree (length w) t (units ∷ [])) w w₁ (Written k units)
+  pub deliver_done : (k : ℕ) → r ≡ Some k → Delivers write_says (deliver_tree (length w) t (units ∷ [])) w w₁ (Ok (record { length = k; units = units }))
   unfolding write_says
-  deliver_done k i = tree_long write_says t (units ∷ []) w w₁ r d (Written k units) k refl i
+  deliver_done k i = tree_long write_says t (units ∷ []) w w₁ r d (Ok (record { length = k; units = units })) k refl i
 
 -- ---- reading
 
 module _ (f s : List ℕ) where
-  pub read_small : length s < room_least → Settles read_says (read_outcome f (length s)) s s [] [] (not_read RoomSmall)
+  pub read_small : length s < room_least → Settles read_says (read_outcome f (length s)) s s [] [] (Err RoomSmall)
   unfolding read_outcome read_says
-  read_small h = small_settles read_says (ended delivered_read (read_form f 0)) s [] (not_read RoomSmall) refl h
+  read_small h = small_settles read_says (ended delivered_read (read_form f 0)) s [] (Err RoomSmall) refl h
 
-  pub write_small : (w : List ℕ) → length s < room_least → Settles write_says (write_outcome f (length s) (length w)) s s w w (not_written RoomSmall)
+  pub write_small : (w : List ℕ) → length s < room_least → Settles write_says (write_outcome f (length s) (length w)) s s w w (Err RoomSmall)
   unfolding write_outcome write_says
-  write_small w h = small_settles write_says (ended (delivered_write (length w)) (read_form f 0)) s w (not_written RoomSmall) refl h
+  write_small w h = small_settles write_says (ended (delivered_write (length w)) (read_form f 0)) s w (Err RoomSmall) refl h
 
   read_zeros : Zeros (ended delivered_read (read_form f 0))
   unfolding delivered_read
@@ -79,40 +75,46 @@ module _ (f s : List ℕ) where
   unfolding delivered_write
   write_zeros n = zeros_ended (delivered_write n) (λ t x. zeros_tree n t (x.units ∷ [])) (read_form f 0) (late_read f 0)
 
-  module _ (s₁ s₂ : List ℕ) (z : s₂ ≡ zeroed s₁) (same : length s₁ ≡ length s) (h : room_least ≤ length s) (m : Made) (o : WholeOk f s₁ m) where
-    stopped : (n : Refusal) → m ≡ not_made n → Stops (read_form f 0) n
+  module _ (s₁ s₂ : List ℕ) (z : s₂ ≡ zeroed s₁) (same : length s₁ ≡ length s) (h : room_least ≤ length s) (m : Result Made Refusal) (o : WholeOk f s₁ m) where
+    stopped : (n : Refusal) → m ≡ Err n → Stops (read_form f 0) n
     unfolding WholeOk
     stopped n e = rw e at o
 
-    pub read_refused : (n : Refusal) → m ≡ not_made n → Settles read_says (read_outcome f (length s)) s s₂ [] [] (not_read n)
+    pub read_refused : (n : Refusal) → m ≡ Err n → Settles read_says (read_outcome f (length s)) s s₂ [] [] (Err n)
     unfolding read_outcome read_says
-    read_refused n e = zeroed_settles read_says _ s s₁ s₂ [] [] (not_read n) (go (stopped n e)) read_zeros h z same
+    read_refused n e = zeroed_settles read_says _ s s₁ s₂ [] [] (Err n) (go (stopped n e)) read_zeros h z same
       where
-        go : Stops (read_form f 0) n → Delivers read_says (ended delivered_read (read_form f 0)) [] [] (not_read n)
-        go (stops t i) = ended_refused read_says delivered_read (read_form f 0) n t [] (not_read n) i refl
+        go : Stops (read_form f 0) n → Delivers read_says (ended delivered_read (read_form f 0)) [] [] (Err n)
+        go (stops t i) = ended_refused read_says delivered_read (read_form f 0) n t [] (Err n) i refl
 
-    pub write_refused : (n : Refusal) (w : List ℕ) → m ≡ not_made n → Settles write_says (write_outcome f (length s) (length w)) s s₂ w w (not_written n)
+    pub write_refused : (n : Refusal) (w : List ℕ) → m ≡ Err n → Settles write_says (write_outcome f (length s) (length w)) s s₂ w w (Err n)
     unfolding write_outcome write_says
-    write_refused n w e = zeroed_settles write_says _ s s₁ s₂ w w (not_written n) (go (stopped n e)) (write_zeros (length w)) h z same
+    write_refused n w e = zeroed_settles write_says _ s s₁ s₂ w w (Err n) (go (stopped n e)) (write_zeros (length w)) h z same
       where
-        go : Stops (read_form f 0) n → Delivers write_says (ended (delivered_write (length w)) (read_form f 0)) w w (not_written n)
-        go (stops t i) = ended_refused write_says (delivered_write (length w)) (read_form f 0) n t w (not_written n) i refl
+        go : Stops (read_form f 0) n → Delivers write_says (ended (delivered_write (length w)) (read_form f 0)) w w (Err n)
+        go (stops t i) = ended_refused write_says (delivered_write (length w)) (read_form f 0) n t w (Err n) i refl
 
-    module _ (q : ℕ) (c : Charges) (e : m ≡ made q c) where
+    module _ (x : Made) (e : m ≡ Ok x) where
+      abbrev q : ℕ
+      q = x.node
+
+      abbrev c : Charges
+      c = x.ch
+
       whole : WholeTo f s₁ c q
       unfolding WholeOk
       whole = rw e at o
 
-      pub read_done : Settles read_says (read_outcome f (length s)) s s₂ [] [] (Read c.units)
+      pub read_done : Settles read_says (read_outcome f (length s)) s s₂ [] [] (Ok c.units)
       unfolding read_outcome read_says delivered_read told out_after
-      read_done = zeroed_settles read_says _ s s₁ s₂ [] [] (Read c.units)
-          (ended_done read_says delivered_read (read_form f 0) (tree_at f s₁ q) _ [] [] (Read c.units) whole.is (record { answer = refl; out = refl })) read_zeros h z same
+      read_done = zeroed_settles read_says _ s s₁ s₂ [] [] (Ok c.units)
+          (ended_done read_says delivered_read (read_form f 0) (tree_at f s₁ q) _ [] [] (Ok c.units) whole.is (record { answer = refl; out = refl })) read_zeros h z same
 
-      pub write_done : (w w₁ : List ℕ) (a : WriteAnswer) → Delivers write_says (deliver_tree (length w) (tree_at f s₁ q) (c.units ∷ [])) w w₁ a → Settles write_says (write_outcome f (length s) (length w)) s s₂ w w₁ a
+      pub write_done : (w w₁ : List ℕ) (a : Result Written Refusal) → Delivers write_says (deliver_tree (length w) (tree_at f s₁ q) (c.units ∷ [])) w w₁ a → Settles write_says (write_outcome f (length s) (length w)) s s₂ w w₁ a
       unfolding write_outcome delivered_write
       write_done w w₁ a d = zeroed_settles write_says _ s s₁ s₂ w w₁ a (ended_done write_says (delivered_write (length w)) (read_form f 0) (tree_at f s₁ q) _ w w₁ a whole.is d) (write_zeros (length w)) h z same
 
 -- the whole form's node can be written
-pub whole_writable : (f s₁ : List ℕ) (m : Made) (q : ℕ) (c : Charges) → WholeOk f s₁ m → m ≡ made q c → Writable f s₁ q
+pub whole_writable : (f s₁ : List ℕ) (m : Result Made Refusal) (x : Made) → WholeOk f s₁ m → m ≡ Ok x → Writable f s₁ x.node
 unfolding WholeOk
-whole_writable f s₁ m q c o e = let w : WholeTo f s₁ c q = rw e at o in node_writable f s₁ c q w.ready
+whole_writable f s₁ m x o e = let w : WholeTo f s₁ x.ch x.node = rw e at o in node_writable f s₁ x.ch x.node w.ready

@@ -1,4 +1,5 @@
 -- Bytes compared with a tree that would be written: what each return needs. Assumes nothing.
+use Rattle.std.specs.Prelude.{Result, Ok, Err, Option, Some, None}
 use mathlib.Core.Path.{◌≡◌, refl, sym, ◌∙◌, ap}
 use mathlib.Core.List.{List, [], ◌∷◌, ◌++◌}
 use mathlib.Core.Bool.{Bool, true, false, ◌&&◌}
@@ -21,8 +22,6 @@ use Rattle.store.specs.Cells.{cell_at, bytes_at}
 use Rattle.store.specs.Nodes.{tree_at}
 use Rattle.store.proofs.Places.{whether}
 use Rattle.store.proofs.Trees.{tree_pair, tree_atom}
-use Rattle.form.specs.declared.Followed.{Followed}
-use Rattle.form.specs.declared.Followed.TheVariants.{To, Off}
 use Rattle.form.specs.Writes.{Wrote, stands, followed}
 
 -- ---- bytes that stand at a place
@@ -93,11 +92,11 @@ stands_part f b at r e =
 -- ---- followed
 
 module _ (f : List ℕ) (at : ℕ) (w : List ℕ) where
-  pub follows : stands f at w ≡ true → followed f at w ≡ To (at + length w)
+  pub follows : stands f at w ≡ true → followed f at w ≡ Some (at + length w)
   unfolding followed
   follows h = rw (h, followed)
 
-  pub follows_not : stands f at w ≡ false → followed f at w ≡ Off
+  pub follows_not : stands f at w ≡ false → followed f at w ≡ None
   unfolding followed
   follows_not h = rw (h, followed)
 
@@ -130,10 +129,10 @@ module _ (f b buf buf₁ : List ℕ) (at k : ℕ) (d : Wrote (write_atom b) k bu
     pub place_fits : r ≡ true → at ≤ length f → length f < 2 ^ 64 → Fits w64 (at + k)
     place_fits e l h = record { fits = omega (arith, h, d.count, stands_within f at (write_atom b) l (ap (stands f at) (sym atom_front) ∙ sym er ∙ e)) }
 
-    pub atom_stands : r ≡ true → To (at + k) ≡ followed f at (write_atom b)
-    atom_stands e = let z : stands f at (write_atom b) ≡ true = ap (stands f at) (sym atom_front) ∙ sym er ∙ e in ap (λ (n : ℕ). To (at + n)) d.count ∙ sym (follows f at (write_atom b) z)
+    pub atom_stands : r ≡ true → Some (at + k) ≡ followed f at (write_atom b)
+    atom_stands e = let z : stands f at (write_atom b) ≡ true = ap (stands f at) (sym atom_front) ∙ sym er ∙ e in ap (λ (n : ℕ). Some (at + n)) d.count ∙ sym (follows f at (write_atom b) z)
 
-    pub atom_off : r ≡ false → Off ≡ followed f at (write_atom b)
+    pub atom_off : r ≡ false → None ≡ followed f at (write_atom b)
     atom_off e = sym (follows_not f at (write_atom b) (ap (stands f at) (sym atom_front) ∙ sym er ∙ e))
 
 -- ---- follow_node
@@ -147,21 +146,21 @@ module _ (f s : List ℕ) (n l r at : ℕ) (q : Cell) (ep : q ≡ Pair l r) (eq 
   unfolding write
   pair_written = rw (tree_pair f s n l r (sym eq ∙ ep))
 
-  off : stands f at (255 ∷ (write (tree_at f s l) ++ write (tree_at f s r))) ≡ false → Off ≡ followed f at (write (tree_at f s n))
+  off : stands f at (255 ∷ (write (tree_at f s l) ++ write (tree_at f s r))) ≡ false → None ≡ followed f at (write (tree_at f s n))
   off h = sym (ap (followed f at) pair_written ∙ follows_not f at _ h)
 
-  pub pair_none : length f ≤ at → Off ≡ followed f at (write (tree_at f s n))
+  pub pair_none : length f ≤ at → None ≡ followed f at (write (tree_at f s n))
   pair_none h = off (stands_short f at _ (omega arith))
 
   module _ (h : at < length f) where
-    pub pair_other : (get_or f at 0 ≡ 255 → ⊥) → Off ≡ followed f at (write (tree_at f s n))
+    pub pair_other : (get_or f at 0 ≡ 255 → ⊥) → None ≡ followed f at (write (tree_at f s n))
     pair_other g = off (stands_first f at 255 _ h ∙ rw (ne_eqb (get_or f at 0) 255 g))
 
     module _ (g : get_or f at 0 ≡ 255) where
       parted : stands f at (255 ∷ (write (tree_at f s l) ++ write (tree_at f s r))) ≡ (stands f (suc at) (write (tree_at f s l)) && stands f (suc at + length (write (tree_at f s l))) (write (tree_at f s r)))
       parted = stands_first f at 255 _ h ∙ rw (eq-eqb (get_or f at 0) 255 g) (stands_both f (suc at) (write (tree_at f s l)) (write (tree_at f s r)))
 
-      module _ (a : Followed) (ea : a ≡ followed f (at + 1) (write (tree_at f s l))) where
+      module _ (a : Option ℕ) (ea : a ≡ followed f (at + 1) (write (tree_at f s l))) where
         left_side : Bool
         left_side = stands f (at + 1) (write (tree_at f s l))
 
@@ -169,26 +168,26 @@ module _ (f s : List ℕ) (n l r at : ℕ) (q : Cell) (ep : q ≡ Pair l r) (eq 
         unfolding left_side
         left_is = let z : suc at ≡ at + 1 = omega arith in rw z
 
-        pub pair_left_off : a ≡ Off → Off ≡ followed f at (write (tree_at f s n))
+        pub pair_left_off : a ≡ None → None ≡ followed f at (write (tree_at f s n))
         unfolding left_side
         pair_left_off e = on_bool left_side
-            (λ y. let z : To (at + 1 + length (write (tree_at f s l))) ≡ Off = sym (follows f (at + 1) _ y) ∙ sym ea ∙ e in let c : ◌≡◌ {A = ℕ} 0 1 = cc in absurd (omega arith))
+            (λ y. let z : Some (at + 1 + length (write (tree_at f s l))) ≡ None = sym (follows f (at + 1) _ y) ∙ sym ea ∙ e in let c : ◌≡◌ {A = ℕ} 0 1 = cc in absurd (omega arith))
             (λ y. off (parted ∙ rw (left_is ∙ y)))
 
-        module _ (m : ℕ) (em : a ≡ To m) where
+        module _ (m : ℕ) (em : a ≡ Some m) where
           left_stands : left_side ≡ true
           unfolding left_side
-          left_stands = on_bool left_side (λ y. y) (λ y. let z : Off ≡ To m = sym (follows_not f (at + 1) _ y) ∙ sym ea ∙ em in let c : ◌≡◌ {A = ℕ} 0 1 = cc in absurd (omega arith))
+          left_stands = on_bool left_side (λ y. y) (λ y. let z : None ≡ Some m = sym (follows_not f (at + 1) _ y) ∙ sym ea ∙ em in let c : ◌≡◌ {A = ℕ} 0 1 = cc in absurd (omega arith))
 
           left_end : m ≡ at + 1 + length (write (tree_at f s l))
           unfolding left_side
-          left_end = let z : To m ≡ To (at + 1 + length (write (tree_at f s l))) = sym em ∙ ea ∙ follows f (at + 1) _ left_stands in cc
+          left_end = let z : Some m ≡ Some (at + 1 + length (write (tree_at f s l))) = sym em ∙ ea ∙ follows f (at + 1) _ left_stands in cc
 
           pub left_inside : m ≤ length f
           unfolding left_side
           left_inside = let z = stands_within f (at + 1) (write (tree_at f s l)) (omega arith) left_stands in omega (arith, left_end, z)
 
-          pub pair_followed : (b : Followed) → b ≡ followed f m (write (tree_at f s r)) → b ≡ followed f at (write (tree_at f s n))
+          pub pair_followed : (b : Option ℕ) → b ≡ followed f m (write (tree_at f s r)) → b ≡ followed f at (write (tree_at f s n))
           pair_followed b eb = on_bool (stands f m (write (tree_at f s r)))
               (λ y. eb ∙ follows f m _ y ∙ sum ∙ sym (follows f at _ (whole ∙ y)) ∙ ap (followed f at) (sym pair_written))
               (λ y. eb ∙ follows_not f m _ y ∙ off (whole ∙ y))
@@ -199,9 +198,9 @@ module _ (f s : List ℕ) (n l r at : ℕ) (q : Cell) (ep : q ≡ Pair l r) (eq 
               whole : stands f at (255 ∷ (write (tree_at f s l) ++ write (tree_at f s r))) ≡ stands f m (write (tree_at f s r))
               whole = parted ∙ rw (left_is ∙ left_stands, ends)
 
-              sum : To (m + length (write (tree_at f s r))) ≡ To (at + length (255 ∷ (write (tree_at f s l) ++ write (tree_at f s r))))
-              sum = ap To (omega (arith, left_end, length-append (write (tree_at f s l)) (write (tree_at f s r))))
+              sum : Some (m + length (write (tree_at f s r))) ≡ Some (at + length (255 ∷ (write (tree_at f s l) ++ write (tree_at f s r))))
+              sum = ap Some (omega (arith, left_end, length-append (write (tree_at f s l)) (write (tree_at f s r))))
 
-pub leaf_followed : (f s b : List ℕ) (n at : ℕ) (q : Cell) → q ≡ Atom → q ≡ cell_at s n → b ≡ bytes_at f s n → (r : Followed) → r ≡ followed f at (write_atom b) → r ≡ followed f at (write (tree_at f s n))
+pub leaf_followed : (f s b : List ℕ) (n at : ℕ) (q : Cell) → q ≡ Atom → q ≡ cell_at s n → b ≡ bytes_at f s n → (r : Option ℕ) → r ≡ followed f at (write_atom b) → r ≡ followed f at (write (tree_at f s n))
 unfolding write
 leaf_followed f s b n at q ep eq eb r e = let z : tree_at f s n ≡ atom b = tree_atom f s n (sym eq ∙ ep) ∙ ap atom (sym eb) in e ∙ rw z

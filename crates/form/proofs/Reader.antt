@@ -1,4 +1,5 @@
 -- What each return of the reader needs. Assumes nothing.
+use Rattle.std.specs.Prelude.{Option, Some, None}
 use mathlib.Core.Path.{◌≡◌, refl, sym, ◌∙◌, ap, subst}
 use mathlib.Core.List.{List, [], ◌∷◌}
 use Prim.Native.Nat.{ℕ, suc, ◌+◌, ◌-◌, ◌*◌, ◌<◌, ◌≤◌}
@@ -19,13 +20,11 @@ use Rattle.meaning.proofs.MeterLaws.{bind_at, seq_at}
 use Rattle.meaning.proofs.ReaderLaws.{spend_at}
 use Rattle.store.specs.declared.Charges.{Charges}
 use Rattle.store.specs.declared.Made.{Made}
-use Rattle.store.specs.declared.Made.TheVariants.{Node as made, Refused as not_made}
 use Rattle.store.specs.Nodes.{tree_at}
 use Rattle.store.specs.Store.{Held, Ready}
 use Rattle.store.specs.Makers.{Grown, Bought, Over, MadeOk}
 use Rattle.store.proofs.Ready.{small, nil_ready, grown_none, grown_both}
-use Rattle.form.specs.declared.Reading.{Reading as Answer}
-use Rattle.form.specs.declared.Reading.TheVariants.{Node, Refused}
+use Rattle.form.specs.declared.Parsed.{Parsed}
 use Rattle.form.specs.declared.Closed.{Closed}
 use Rattle.form.specs.Spans.{span, left_from, next_tree, Stops, LengthOk}
 use Rattle.form.specs.Reads.{Stretch, ReadTo, ReadOk, reading_of}
@@ -37,20 +36,20 @@ use Rattle.form.proofs.Atoms as atoms
 
 -- ---- what was made, and where the next byte stands
 
-pub next_node : (m : Made) (q next : ℕ) (c : Charges) → m ≡ made q c → Node q next c ≡ reading_of m next
+pub next_node : (m : Result Made Refusal) (x : Made) (next : ℕ) → m ≡ Ok x → Ok (record { node = x.node; next = next; ch = x.ch }) ≡ reading_of m next
 unfolding reading_of
-next_node m q next c e = rw e
+next_node m x next e = rw e
 
-pub next_refused : (m : Made) (next : ℕ) (n : Refusal) → m ≡ not_made n → Refused n ≡ reading_of m next
+pub next_refused : (m : Result Made Refusal) (next : ℕ) (n : Refusal) → m ≡ Err n → Err n ≡ reading_of m next
 unfolding reading_of
 next_refused m next n e = rw e
 
 -- an atom that is made and charged
-made_read : (f s s' : List ℕ) (end at next : ℕ) (c : Charges) (cost : ℕ) (t : Tree) (o : Out Reading Tree) (m : Made) → MadeOk f s s' c cost t m
+made_read : (f s s' : List ℕ) (end at next : ℕ) (c : Charges) (cost : ℕ) (t : Tree) (o : Out Reading Tree) (m : Result Made Refusal) → MadeOk f s s' c cost t m
     → o ≡ (spend limits cost >> give t) (left_from f next end c.units) → at ≤ next → next ≤ end → ReadOk f s s' end at c o (reading_of m next)
 unfolding MadeOk ReadOk reading_of give
-made_read f s s' end at next c cost t o (made q c') b e h k =
-    let i : c'.units ≡ c.units + cost = b.units in
+made_read f s s' end at next c cost t o (Ok x) b e h k =
+    let i : x.ch.units ≡ c.units + cost = b.units in
     let g : c.units + cost ≤ unit_limit = omega (arith, b.stands.ready.held.units) in
     record {
       after = h;
@@ -62,25 +61,25 @@ made_read f s s' end at next c cost t o (made q c') b e h k =
           ∙ seq_at (spend limits cost) (give t) (left_from f next end c.units) (left_from f next end (c.units + cost)) tt (spend_at limits cost _ c.units (le-leb (c.units + cost) unit_limit g))
           ∙ rw (i, b.stands.tree);
     }
-made_read f s s' end at next c cost t o (not_made n) b e h k =
+made_read f s s' end at next c cost t o (Err n) b e h k =
     subst (Stops o) (sym b.refusal) (same_stops e (seq_stops (spend limits cost) (give t) (left_from f next end c.units) UnitsOut (spend_stops cost (left_from f next end c.units) b.over)))
 
 -- ---- an atom with a prefix
 
 module _ (f s : List ℕ) (end at : ℕ) (c : Charges) (p : ℕ) (r : Result (ℕ × ℕ) Refusal) (o : LengthOk f end at (length_from p) r) where
-  pub long_refused : (s' : List ℕ) (e : Refusal) → r ≡ Err e → ReadOk f s s' end at c (read_long limits p (left_from f at end c.units)) (Refused e)
+  pub long_refused : (s' : List ℕ) (e : Refusal) → r ≡ Err e → ReadOk f s s' end at c (read_long limits p (left_from f at end c.units)) (Err e)
   unfolding ReadOk
   long_refused s' e i = atoms.long_stops f end at p c.units r o e i
 
   module _ (n from : ℕ) (i : r ≡ Ok (n, from)) where
-    pub long_wide : (s' : List ℕ) → 64 < n → ReadOk f s s' end at c (read_long limits p (left_from f at end c.units)) (Refused AtomLong)
+    pub long_wide : (s' : List ℕ) → 64 < n → ReadOk f s s' end at c (read_long limits p (left_from f at end c.units)) (Err AtomLong)
     unfolding ReadOk
     long_wide s' h = atoms.long_wide f end at p c.units r o n from i h
 
     pub long_within : from ≤ end
     long_within = atoms.from_within f end at p c.units r o n from i
 
-    pub long_ends : (s' : List ℕ) → Stretch f end at → n ≤ 64 → end - from < n → ReadOk f s s' end at c (read_long limits p (left_from f at end c.units)) (Refused EndsEarly)
+    pub long_ends : (s' : List ℕ) → Stretch f end at → n ≤ 64 → end - from < n → ReadOk f s s' end at c (read_long limits p (left_from f at end c.units)) (Err EndsEarly)
     unfolding ReadOk
     long_ends s' z h l = atoms.long_ends f end at p c.units r o n from i z.lent h l
 
@@ -90,7 +89,7 @@ module _ (f s : List ℕ) (end at : ℕ) (c : Charges) (p : ℕ) (r : Result (�
     pub long_place : Stretch f end at → from < 65536
     long_place z = omega (arith, z.small, long_within)
 
-    pub long_made : (s' : List ℕ) (a : Answer) (m : Made) → a ≡ reading_of m (from + n) → MadeOk f s s' c (atom_cost (take n (drop from f))) (atom (take n (drop from f))) m
+    pub long_made : (s' : List ℕ) (a : Result Parsed Refusal) (m : Result Made Refusal) → a ≡ reading_of m (from + n) → MadeOk f s s' c (atom_cost (take n (drop from f))) (atom (take n (drop from f))) m
         → Stretch f end at → n ≤ 64 → n ≤ end - from → ReadOk f s s' end at c (read_long limits p (left_from f at end c.units)) a
     long_made s' a m ea k z h l =
         let fit : from + n ≤ end = omega (arith, long_within) in
@@ -105,7 +104,7 @@ module _ (f s : List ℕ) (end at : ℕ) (c : Charges) (z : Stretch f end at) (h
   by_atom : next_tree (left_from f at end c.units) ≡ read_atom limits p (left_from f (at + 1) end c.units)
   by_atom = rw e (tree_atom f at end c.units h z.lent n)
 
-  pub atom_alone : (s' : List ℕ) (a : Answer) (m : Made) → a ≡ reading_of m (at + 1) → MadeOk f s s' c (atom_cost (take 1 (drop at f))) (atom (take 1 (drop at f))) m → p < 128
+  pub atom_alone : (s' : List ℕ) (a : Result Parsed Refusal) (m : Result Made Refusal) → a ≡ reading_of m (at + 1) → MadeOk f s s' c (atom_cost (take 1 (drop at f))) (atom (take 1 (drop at f))) m → p < 128
       → ReadOk f s s' end (at + 1) c (next_tree (left_from f at end c.units)) a
   unfolding atom_cost
   atom_alone s' a m ea k l =
@@ -114,7 +113,7 @@ module _ (f s : List ℕ) (end at : ℕ) (c : Charges) (z : Stretch f end at) (h
       (made_read f s s' end (at + 1) (at + 1) c 5 (byte p) (next_tree (left_from f at end c.units)) m (rw y at k)
       (by_atom ∙ atoms.atom_byte p (left_from f (at + 1) end c.units) l) (omega arith) (omega arith))
 
-  pub atom_nil : Held f s c → p ≡ 128 → ReadOk f s s end (at + 1) c (next_tree (left_from f at end c.units)) (Node 0 (at + 1) c)
+  pub atom_nil : Held f s c → p ≡ 128 → ReadOk f s s end (at + 1) c (next_tree (left_from f at end c.units)) (Ok (record { node = 0; next = (at + 1); ch = c }))
   unfolding ReadOk
   atom_nil w l = record {
     after = omega arith;
@@ -125,7 +124,7 @@ module _ (f s : List ℕ) (end at : ℕ) (c : Charges) (z : Stretch f end at) (h
     is = by_atom ∙ atoms.atom_nil p (left_from f (at + 1) end c.units) l ∙ rw w.nil_at;
   }
 
-  pub atom_long : (s' : List ℕ) (a : Answer) → ReadOk f s s' end (at + 1) c (read_long limits p (left_from f (at + 1) end c.units)) a → 128 ≤ p → (p ≡ 128 → ⊥)
+  pub atom_long : (s' : List ℕ) (a : Result Parsed Refusal) → ReadOk f s s' end (at + 1) c (read_long limits p (left_from f (at + 1) end c.units)) a → 128 ≤ p → (p ≡ 128 → ⊥)
       → ReadOk f s s' end (at + 1) c (next_tree (left_from f at end c.units)) a
   atom_long s' a k l m = subst (λ (o : Out Reading Tree). ReadOk f s s' end (at + 1) c o a) (sym (by_atom ∙ atoms.atom_long p (left_from f (at + 1) end c.units) l m)) k
 
@@ -168,8 +167,8 @@ module _ (f s₀ s w : List ℕ) (k q : ℕ) (c₀ c : Charges) (node left : ℕ
     one_less : (l : List ℕ) → resume f s₀ w k (tree_at f s₀ q) (record { left = l; units = c₀.units }) ≡ resume f s w (suc (left - 1)) (tree_at f s node) (record { left = l; units = c.units })
     one_less l = a.is l ∙ ap (λ (j : ℕ). resume f s w j (tree_at f s node) (record { left = l; units = c.units })) less
 
-    module _ (s₁ : List ℕ) (m : Made) (b : MadeOk f s s₁ c pair_cost (pair (tree_at f s v) (tree_at f s node)) m) where
-      pub close_over : (x : Refusal) → m ≡ not_made x → ClosedOk f s₀ s₁ w k q c₀ (Err x)
+    module _ (s₁ : List ℕ) (m : Result Made Refusal) (b : MadeOk f s s₁ c pair_cost (pair (tree_at f s v) (tree_at f s node)) m) where
+      pub close_over : (x : Refusal) → m ≡ Err x → ClosedOk f s₀ s₁ w k q c₀ (Err x)
       unfolding ClosedOk MadeOk
       close_over x i = let y : Over c pair_cost x = rw i at b in
           record {
@@ -177,11 +176,11 @@ module _ (f s₀ s w : List ℕ) (k q : ℕ) (c₀ c : Charges) (node left : ℕ
                 (same_stops (one_less l) (resume_over f s w (left - 1) n (tree_at f s node) (record { left = l; units = c.units }) y.over));
           }
 
-      pub close_turn : (p : ℕ) (d : Charges) → m ≡ made p d → Closing f s₀ s₁ w k q c₀ d p (left - 1)
+      pub close_turn : (p : Made) → m ≡ Ok p → Closing f s₀ s₁ w k q c₀ p.ch p.node (left - 1)
       unfolding MadeOk
-      close_turn p d i =
-          let y : Bought f s s₁ c d pair_cost p (pair (tree_at f s v) (tree_at f s node)) = rw i at b in
-          let u : d.units ≡ c.units + pair_cost = y.units in
+      close_turn p i =
+          let y : Bought f s s₁ c p.ch pair_cost p.node (pair (tree_at f s v) (tree_at f s node)) = rw i at b in
+          let u : p.ch.units ≡ c.units + pair_cost = y.units in
           let g : c.units + pair_cost ≤ unit_limit = omega (arith, y.stands.ready.held.units) in
           let x : Waits f s w c (left - 1) = waits_fewer (left - 1) (omega arith) a.waits in
           record {
@@ -222,7 +221,7 @@ going_starts f s w end at c h z o = record {
 
 module _ {f s₀ s w : List ℕ} {end at : ℕ} {c₀ c : Charges} {k next : ℕ} (a : Going f s₀ s w end at c₀ c k next) where
   -- the form ends
-  pub going_ends : end ≤ next → ReadOk f s₀ s end at c₀ (next_tree (left_from f at end c₀.units)) (Refused EndsEarly)
+  pub going_ends : end ≤ next → ReadOk f s₀ s end at c₀ (next_tree (left_from f at end c₀.units)) (Err EndsEarly)
   unfolding ReadOk
   going_ends h = same_stops a.is (bind_stops next_tree (resume f s w k) (left_from f next end c.units) EndsEarly (tree_none f next end c.units h))
 
@@ -256,13 +255,22 @@ module _ {f s₀ s w : List ℕ} {end at : ℕ} {c₀ c : Charges} {k next : ℕ
     pub going_stretch : Stretch f end next
     going_stretch = record { inside = a.within; lent = a.lent; small = a.small }
 
-    module _ (s₁ : List ℕ) {r : Answer} (o : ReadOk f s s₁ end (next + 1) c (next_tree (left_from f next end c.units)) r) where
-      pub going_refused : {n : Refusal} → r ≡ Refused n → ReadOk f s₀ s₁ end at c₀ (next_tree (left_from f at end c₀.units)) (Refused n)
+    module _ (s₁ : List ℕ) {r : Result Parsed Refusal} (o : ReadOk f s s₁ end (next + 1) c (next_tree (left_from f next end c.units)) r) where
+      pub going_refused : {n : Refusal} → r ≡ Err n → ReadOk f s₀ s₁ end at c₀ (next_tree (left_from f at end c₀.units)) (Err n)
       unfolding ReadOk
       going_refused {n} e = let y : Stops (next_tree (left_from f next end c.units)) n = rw e at o in
           same_stops a.is (bind_stops next_tree (resume f s w k) (left_from f next end c.units) n y)
 
-      module _ {q m : ℕ} {c₁ : Charges} (e : r ≡ Node q m c₁) where
+      module _ {a₁ : Parsed} (e : r ≡ Ok a₁) where
+        abbrev q : ℕ
+        q = a₁.node
+
+        abbrev m : ℕ
+        m = a₁.next
+
+        abbrev c₁ : Charges
+        c₁ = a₁.ch
+
         to : ReadTo f s s₁ end (next + 1) c c₁ (next_tree (left_from f next end c.units)) q m
         unfolding ReadOk
         to = rw e at o
@@ -282,7 +290,7 @@ module _ {f s₀ s w : List ℕ} {end at : ℕ} {c₀ c : Charges} {k next : ℕ
             ∙ ap (λ (g : Tree → M Reading Tree). g (tree_at f s₁ q) (left_from f m end c₁.units)) (sym (resume_grown to.grown a.waits))
 
         module _ (s₂ : List ℕ) {x : Result Closed Refusal} (b : ClosedOk f s₁ s₂ w k q c₁ x) where
-          pub going_over : {n : Refusal} → x ≡ Err n → ReadOk f s₀ s₂ end at c₀ (next_tree (left_from f at end c₀.units)) (Refused n)
+          pub going_over : {n : Refusal} → x ≡ Err n → ReadOk f s₀ s₂ end at c₀ (next_tree (left_from f at end c₀.units)) (Err n)
           unfolding ReadOk ClosedOk
           going_over {n} i = let y : ClosedStops f s₁ w k q c₁ n = rw i at b in same_stops whole (y.is (span f m end))
 
@@ -303,7 +311,7 @@ module _ {f s₀ s w : List ℕ} {end at : ℕ} {c₀ c : Charges} {k next : ℕ
             pub going_place : (z.left ≡ 0 → ⊥) → z.left - 1 < length w
             going_place n = omega (arith, by.fewer, a.waits.within)
 
-            pub going_done : z.left ≡ 0 → ReadOk f s₀ s₂ end at c₀ (next_tree (left_from f at end c₀.units)) (Node z.node m z.ch)
+            pub going_done : z.left ≡ 0 → ReadOk f s₀ s₂ end at c₀ (next_tree (left_from f at end c₀.units)) (Ok (record { node = z.node; next = m; ch = z.ch }))
             unfolding ReadOk resume give
             going_done g = record {
               after = omega (arith, a.after, to.after);

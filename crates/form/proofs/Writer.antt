@@ -1,4 +1,5 @@
 -- What each return of the writer of a node needs. Assumes nothing.
+use Rattle.std.specs.Prelude.{Result, Ok, Err, Option, Some, None}
 use mathlib.Core.Path.{◌≡◌, refl, sym, ◌∙◌, ap}
 use mathlib.Core.List.{List, [], ◌∷◌, ◌++◌}
 use mathlib.Core.Bool.{Bool, true, false}
@@ -18,8 +19,6 @@ use Rattle.store.specs.Cells.{cell_at, bytes_at}
 use Rattle.store.specs.Nodes.{tree_at}
 use Rattle.store.proofs.Places.{whether}
 use Rattle.store.proofs.Trees.{IsPair, cell_below, tree_pair, tree_atom}
-use Rattle.form.specs.declared.Extent.{Extent}
-use Rattle.form.specs.declared.Extent.TheVariants.{Long, Over}
 use Rattle.form.specs.Writes.{Short, Writable, Wrote, extent}
 use Rattle.form.proofs.Lend.{lent, back, lent_length, back_length, one_set, two_set, wrote_length, then_wrote}
 
@@ -148,27 +147,27 @@ module _ (b out : List ℕ) where
 
 -- ---- how long a tree is, where a limit allows it
 
-extent_fits : (limit n : ℕ) → n ≤ limit → extent limit n ≡ Long n
+extent_fits : (limit n : ℕ) → n ≤ limit → extent limit n ≡ Some n
 unfolding extent
 extent_fits limit n h = rw (le-leb n limit h, extent)
 
-extent_more : (limit n : ℕ) → limit < n → extent limit n ≡ Over
+extent_more : (limit n : ℕ) → limit < n → extent limit n ≡ None
 unfolding extent
 extent_more limit n h = rw (lt-leb n limit h, extent)
 
-pub extent_over : (limit n : ℕ) (r : Extent) → r ≡ extent limit n → r ≡ Over → limit < n
+pub extent_over : (limit n : ℕ) (r : Option ℕ) → r ≡ extent limit n → r ≡ None → limit < n
 extent_over limit n r e f = on_bool (leb n limit)
-    (λ b. let z : Long n ≡ Over = sym (extent_fits limit n (leb-true n limit b)) ∙ sym e ∙ f in let y : ◌≡◌ {A = ℕ} 0 1 = cc in absurd (omega arith))
+    (λ b. let z : Some n ≡ None = sym (extent_fits limit n (leb-true n limit b)) ∙ sym e ∙ f in let y : ◌≡◌ {A = ℕ} 0 1 = cc in absurd (omega arith))
     (λ b. leb-false n limit b)
 
 pub record Is (limit n m : ℕ) : Type 0 where
   pub same : m ≡ n
   pub fits : n ≤ limit
 
-pub extent_long : (limit n m : ℕ) (r : Extent) → r ≡ extent limit n → r ≡ Long m → Is limit n m
+pub extent_long : (limit n m : ℕ) (r : Option ℕ) → r ≡ extent limit n → r ≡ Some m → Is limit n m
 extent_long limit n m r e f = on_bool (leb n limit)
-    (λ b. let h : n ≤ limit = leb-true n limit b in let z : Long m ≡ Long n = sym f ∙ e ∙ extent_fits limit n h in record { same = cc; fits = h })
-    (λ b. let z : Long m ≡ Over = sym f ∙ e ∙ extent_more limit n (leb-false n limit b) in let y : ◌≡◌ {A = ℕ} 0 1 = cc in absurd (omega arith))
+    (λ b. let h : n ≤ limit = leb-true n limit b in let z : Some m ≡ Some n = sym f ∙ e ∙ extent_fits limit n h in record { same = cc; fits = h })
+    (λ b. let z : Some m ≡ None = sym f ∙ e ∙ extent_more limit n (leb-false n limit b) in let y : ◌≡◌ {A = ℕ} 0 1 = cc in absurd (omega arith))
 
 -- ---- the parts of a pair
 
@@ -198,14 +197,14 @@ module _ (f s : List ℕ) (n l r : ℕ) (q : Cell) (ep : q ≡ Pair l r) (eq : q
   pair_length = let e : length (write (tree_at f s n)) ≡ suc (length (write (tree_at f s l) ++ write (tree_at f s r))) = rw is_pair in omega (arith, length-append (write (tree_at f s l)) (write (tree_at f s r)))
 
   module _ (limit : ℕ) where
-    pub length_none : limit ≡ 0 → Over ≡ extent limit (length (write (tree_at f s n)))
+    pub length_none : limit ≡ 0 → None ≡ extent limit (length (write (tree_at f s n)))
     length_none h = sym (extent_more limit (length (write (tree_at f s n))) (omega (arith, pair_length)))
 
-    module _ (a : Extent) (ea : a ≡ extent (limit - 1) (length (write (tree_at f s l)))) (h : limit ≡ 0 → ⊥) where
-      pub length_left : a ≡ Over → Over ≡ extent limit (length (write (tree_at f s n)))
+    module _ (a : Option ℕ) (ea : a ≡ extent (limit - 1) (length (write (tree_at f s l)))) (h : limit ≡ 0 → ⊥) where
+      pub length_left : a ≡ None → None ≡ extent limit (length (write (tree_at f s n)))
       length_left e = sym (extent_more limit (length (write (tree_at f s n))) (omega (arith, pair_length, extent_over (limit - 1) (length (write (tree_at f s l))) a ea e)))
 
-      module _ (k : ℕ) (ek : a ≡ Long k) where
+      module _ (k : ℕ) (ek : a ≡ Some k) where
         left : Is (limit - 1) (length (write (tree_at f s l))) k
         left = extent_long (limit - 1) (length (write (tree_at f s l))) k a ea ek
 
@@ -218,12 +217,12 @@ module _ (f s : List ℕ) (n l r : ℕ) (q : Cell) (ep : q ≡ Pair l r) (eq : q
         pub left_sum : limit < 2 ^ 64 → Fits w64 (1 + k)
         left_sum g = record { fits = omega (arith, left_within) }
 
-        module _ (b : Extent) (eb : b ≡ extent (limit - (1 + k)) (length (write (tree_at f s r)))) where
-          pub length_right : b ≡ Over → Over ≡ extent limit (length (write (tree_at f s n)))
+        module _ (b : Option ℕ) (eb : b ≡ extent (limit - (1 + k)) (length (write (tree_at f s r)))) where
+          pub length_right : b ≡ None → None ≡ extent limit (length (write (tree_at f s n)))
           length_right e = sym (extent_more limit (length (write (tree_at f s n)))
               (omega (arith, pair_length, left.same, left_within, extent_over (limit - (1 + k)) (length (write (tree_at f s r))) b eb e)))
 
-          module _ (m : ℕ) (em : b ≡ Long m) where
+          module _ (m : ℕ) (em : b ≡ Some m) where
             right : Is (limit - (1 + k)) (length (write (tree_at f s r))) m
             right = extent_long (limit - (1 + k)) (length (write (tree_at f s r))) m b eb em
 
@@ -233,7 +232,7 @@ module _ (f s : List ℕ) (n l r : ℕ) (q : Cell) (ep : q ≡ Pair l r) (eq : q
             pub both_sum : limit < 2 ^ 64 → Fits w64 (1 + k + m)
             both_sum g = record { fits = omega (arith, both_within) }
 
-            pub length_pair : Long (1 + k + m) ≡ extent limit (length (write (tree_at f s n)))
+            pub length_pair : Some (1 + k + m) ≡ extent limit (length (write (tree_at f s n)))
             length_pair =
                 let z : length (write (tree_at f s n)) ≡ 1 + k + m = omega (arith, pair_length, left.same, right.same) in
                 sym (ap (extent limit) z ∙ extent_fits limit (1 + k + m) both_within)
@@ -253,10 +252,10 @@ module _ (f s b : List ℕ) (n : ℕ) (q : Cell) (ep : q ≡ Atom) (eq : q ≡ c
   atom_length = rw is_atom
 
   module _ (limit k : ℕ) (e : k ≡ length (write_atom b)) where
-    pub length_over : limit < k → Over ≡ extent limit (length (write (tree_at f s n)))
+    pub length_over : limit < k → None ≡ extent limit (length (write (tree_at f s n)))
     length_over h = sym (extent_more limit (length (write (tree_at f s n))) (omega (arith, atom_length)))
 
-    pub length_atom : k ≤ limit → Long k ≡ extent limit (length (write (tree_at f s n)))
+    pub length_atom : k ≤ limit → Some k ≡ extent limit (length (write (tree_at f s n)))
     length_atom h = let z : length (write (tree_at f s n)) ≡ k = omega (arith, atom_length) in sym (ap (extent limit) z ∙ extent_fits limit k h)
 
   pub atom_fits : (out : List ℕ) → length (write (tree_at f s n)) ≤ length out → length (write_atom b) ≤ length out

@@ -1,4 +1,6 @@
 -- Two forms that stand one after the other in one slice, read on one budget of units.
+use Rattle.refusals.specs.declared.Refusal.{Refusal}
+use Rattle.std.specs.Prelude.{Result, Ok, Err, Option, Some, None}
 use Rattle.std.specs.Prelude.{ℕ, ◌≤◌, ◌≡◌, List, length, take, drop}
 use Rattle.meaning.specs.Tree.{Tree}
 use Rattle.meaning.specs.Meter.{Out, done, stop}
@@ -7,7 +9,6 @@ use Rattle.store.specs.declared.Charges.{Charges}
 use Rattle.store.specs.Nodes.{tree_at}
 use Rattle.store.specs.Store.{Ready}
 use Rattle.form.specs.declared.Two.{Two}
-use Rattle.form.specs.declared.Two.TheVariants.{Nodes, Refused}
 use Rattle.form.specs.Spans.{left_from, Stops}
 
 -- the two trees
@@ -38,6 +39,6 @@ pub record TwoTo (f s : List ℕ) (c : Charges) (a b : ℕ) (o : Out Reading Bot
   pub second : Ready f s c b
   pub is : o ≡ done (record { one = tree_at f s a; other = tree_at f s b }) (left_from f (length f) (length f) c.units)
 
-unfoldable pub TwoOk : List ℕ → List ℕ → Out Reading Both → Two → Type 0
-TwoOk f s o (Nodes a b c) = TwoTo f s c a b o
-TwoOk f s o (Refused n) = Stops o n
+unfoldable pub TwoOk : List ℕ → List ℕ → Out Reading Both → Result Two Refusal → Type 0
+TwoOk f s o (Ok a) = TwoTo f s a.ch a.first a.second o
+TwoOk f s o (Err n) = Stops o n

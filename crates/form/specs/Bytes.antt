@@ -1,13 +1,12 @@
 -- Reading and writing on bytes alone: from the form's bytes, and the lengths of the lent room and output, to the outcome.
+use Rattle.refusals.specs.declared.Refusal.{Refusal}
+use Rattle.std.specs.Prelude.{Result, Ok, Err, Option, Some, None}
 use Rattle.std.specs.Prelude.{ℕ, List, [], ◌∷◌}
 use Rattle.refusals.specs.Numbers.{number_of}
 use Rattle.meaning.specs.Tree.{Tree}
 use Rattle.meaning.specs.Form.{Reading, read_form}
 use Rattle.meaning.specs.Outcome.{Outcome, plain, answered, deliver_tree, ended, in_room, Told, values, number}
-use Rattle.form.specs.declared.ReadAnswer.{ReadAnswer}
-use Rattle.form.specs.declared.ReadAnswer.TheVariants.{Read, Refused as not_read}
-use Rattle.form.specs.declared.WriteAnswer.{WriteAnswer}
-use Rattle.form.specs.declared.WriteAnswer.TheVariants.{Written, Refused as not_written}
+use Rattle.form.specs.declared.Written.{Written}
 
 -- reading writes nothing, and tells the units
 unfoldable pub delivered_read : Tree → Reading → Outcome
@@ -29,11 +28,11 @@ unfolding delivered_write read_form ended in_room
 write_outcome form room-length out-length = in_room room-length (ended (delivered_write out-length) (read_form form 0))
 
 -- what `read` says: units
-unfoldable pub read_says : ReadAnswer → Told
-read_says (Read units) = values plain (units ∷ [])
-read_says (not_read n) = number (number_of n)
+unfoldable pub read_says : Result ℕ Refusal → Told
+read_says (Ok units) = values plain (units ∷ [])
+read_says (Err n) = number (number_of n)
 
 -- what `write` says: length and units
-unfoldable pub write_says : WriteAnswer → Told
-write_says (Written count units) = values plain (count ∷ units ∷ [])
-write_says (not_written n) = number (number_of n)
+unfoldable pub write_says : Result Written Refusal → Told
+write_says (Ok a) = values plain (a.length ∷ a.units ∷ [])
+write_says (Err n) = number (number_of n)

@@ -1,13 +1,10 @@
 -- What the writer of a node asks and promises.
+use Rattle.std.specs.Prelude.{Result, Ok, Err, Option, Some, None}
 use Rattle.std.specs.Prelude.{ℕ, ◌+◌, ◌≤◌, ◌<◌, ◌≡◌, List, ◌++◌, Bool, true, false, length, take, drop, leb}
 use Rattle.meaning.specs.Tree.{Tree, atom, pair, same_bytes}
 use Rattle.store.specs.Cells.{Room}
 use Rattle.store.specs.Nodes.{tree_at}
 use Rattle.store.specs.Store.{atom_most}
-use Rattle.form.specs.declared.Extent.{Extent}
-use Rattle.form.specs.declared.Extent.TheVariants.{Long, Over}
-use Rattle.form.specs.declared.Followed.{Followed}
-use Rattle.form.specs.declared.Followed.TheVariants.{To, Off}
 
 -- every atom is as short as the store's are
 unfoldable pub Short : Tree → Type 0
@@ -25,8 +22,8 @@ pub record Wrote (w : List ℕ) (r : ℕ) (before after : List ℕ) : Type 0 whe
   pub bytes : after ≡ w ++ drop (length w) before
 
 -- n bytes, where a limit allows them
-unfoldable pub extent : ℕ → ℕ → Extent
-extent limit n = elim (leb n limit) [ true ↦ Long n | false ↦ Over ]
+unfoldable pub extent : ℕ → ℕ → Option ℕ
+extent limit n = elim (leb n limit) [ true ↦ Some n | false ↦ None ]
 
 -- ---- w compared with bytes that were written before
 
@@ -36,9 +33,9 @@ unfolding same_bytes
 stands f at w = same_bytes (take (length w) (drop at f)) w
 
 -- the place after w, if it does
-unfoldable pub followed : List ℕ → ℕ → List ℕ → Followed
+unfoldable pub followed : List ℕ → ℕ → List ℕ → Option ℕ
 unfolding stands
-followed f at w = elim (stands f at w) [ true ↦ To (at + length w) | false ↦ Off ]
+followed f at w = elim (stands f at w) [ true ↦ Some (at + length w) | false ↦ None ]
 
 -- ---- w delivered: written where the output has room for it
 
@@ -51,6 +48,6 @@ pub record WroteNone (w before after : List ℕ) : Type 0 where
   pub over : length before < length w
   pub kept : after ≡ before
 
-unfoldable pub Delivered : List ℕ → List ℕ → List ℕ → Extent → Type 0
-Delivered w before after (Long k) = WroteAll w k before after
-Delivered w before after Over = WroteNone w before after
+unfoldable pub Delivered : List ℕ → List ℕ → List ℕ → Option ℕ → Type 0
+Delivered w before after (Some k) = WroteAll w k before after
+Delivered w before after None = WroteNone w before after

@@ -17,11 +17,12 @@ ghost use Rattle.form.specs.Bytes.{read_outcome, write_outcome, read_says, write
 use refusals::Refusal;
 use store::{Cell, Charges, Made, ROOM};
 
-// The node read, where the next byte stands, and the charges; or a refusal.
+// The node that was read, where the next byte stands, and the charges.
 #[derive(Clone, Copy)]
-pub enum Reading {
-    Node(usize, usize, Charges),
-    Refused(Refusal),
+pub struct Parsed {
+    pub node: usize,
+    pub next: usize,
+    pub ch: Charges,
 }
 
 // The node that is whole, how many parts wait for it, and the charges.
@@ -32,39 +33,19 @@ pub(crate) struct Closed {
     pub(crate) ch: Charges,
 }
 
-// How many bytes a tree is written in, where a limit allows them.
+// The nodes of two forms, and the charges after both.
 #[derive(Clone, Copy)]
-pub enum Extent {
-    Long(usize),
-    Over,
-}
-
-// The place after bytes that stand where they are looked for, or that they do not.
-#[derive(Clone, Copy)]
-pub enum Followed {
-    To(usize),
-    Off,
-}
-
-// The nodes of two forms and the charges after both; or a refusal.
-#[derive(Clone, Copy)]
-pub enum Two {
-    Nodes(usize, usize, Charges),
-    Refused(Refusal),
-}
-
-// What `read` answers: the units that the form costs.
-#[derive(Clone, Copy)]
-pub enum ReadAnswer {
-    Read(usize),
-    Refused(Refusal),
+pub struct Two {
+    pub first: usize,
+    pub second: usize,
+    pub ch: Charges,
 }
 
 // What `write` answers: how many bytes it wrote, and the units that the form costs.
 #[derive(Clone, Copy)]
-pub enum WriteAnswer {
-    Written(usize, usize),
-    Refused(Refusal),
+pub struct Written {
+    pub length: usize,
+    pub units: usize,
 }
 
 const FORM: usize = 8192;
@@ -119,36 +100,44 @@ fn length_from(form: &[u8], stop: usize, at: usize, p: usize) -> Result<(usize, 
 
 // ---- reading
 
-fn with_next(m: Made, next: usize) -> Reading
+// What was made, and where the next byte stands.
+fn with_next(m: Result<Made, Refusal>, next: usize) -> Result<Parsed, Refusal>
     ensures { result ≡ reading_of m next }
 {
-    match m {
-        Made::Node(n, ch) => Reading::Node(n, next, ch),
-        Made::Refused(e) => Reading::Refused(e),
-    }
+    let Made { node, ch } = m?;
+    Ok(Parsed { node, next, ch })
 }
 
 // An atom that begins with the prefix p, above 80, in any spelling; the byte after it stands at at. An empty one is nil.
-fn read_long(form: &[u8], room: &mut [u8], stop: usize, at: usize, p: usize, ch: Charges) -> Reading
+fn read_long(
+    form: &[u8],
+    room: &mut [u8],
+    stop: usize,
+    at: usize,
+    p: usize,
+    ch: Charges,
+) -> Result<Parsed, Refusal>
     requires { Held form.now room.old ch × Stretch form.now stop at × (128 ≤ p) × (p < 256) }
     ensures { ReadOk form.now room.old room.new stop at ch (read_long limits p (left_from form.now at stop ch.units)) result }
 {
-    match length_from(form, stop, at, p) {
-        Err(e) => Reading::Refused(e),
-        Ok((n, from)) => {
-            if ATOM < n {
-                return Reading::Refused(Refusal::AtomLong);
-            }
-            if stop - from < n {
-                return Reading::Refused(Refusal::EndsEarly);
-            }
-            with_next(store::form_atom_node(form, room, ch, from, n), from + n)
-        }
+    let (n, from) = length_from(form, stop, at, p)?;
+    if ATOM < n {
+        return Err(Refusal::AtomLong);
     }
+    if stop - from < n {
+        return Err(Refusal::EndsEarly);
+    }
+    with_next(store::form_atom_node(form, room, ch, from, n), from + n)
 }
 
 // One atom, from at on: the byte there is not ff.
-fn read_atom(form: &[u8], room: &mut [u8], stop: usize, at: usize, ch: Charges) -> Reading
+fn read_atom(
+    form: &[u8],
+    room: &mut [u8],
+    stop: usize,
+    at: usize,
+    ch: Charges,
+) -> Result<Parsed, Refusal>
     requires { Held form.now room.old ch × Stretch form.now stop at × (at < stop) × (get_or form.now at 0 ≡ 255 → ⊥) }
     ensures { ReadOk form.now room.old room.new stop (at + 1) ch (next_tree (left_from form.now at stop ch.units)) result }
 {
@@ -157,7 +146,11 @@ fn read_atom(form: &[u8], room: &mut [u8], stop: usize, at: usize, ch: Charges) 
         return with_next(store::form_atom_node(form, room, ch, at, 1), at + 1);
     }
     if p == 0x80 {
-        return Reading::Node(0, at + 1, ch);
+        return Ok(Parsed {
+            node: 0,
+            next: at + 1,
+            ch,
+        });
     }
     read_long(form, room, stop, at + 1, p, ch)
 }
@@ -185,13 +178,9 @@ fn close<'a>(
                 ch: spent,
             });
         }
-        match store::pair_node(form, room, spent, v as usize, node) {
-            Made::Refused(over) => return Err(over),
-            Made::Node(p, c) => {
-                node = p;
-                spent = c;
-            }
-        }
+        let pair = store::pair_node(form, room, spent, v as usize, node)?;
+        node = pair.node;
+        spent = pair.ch;
     }
     Ok(Closed {
         node,
@@ -209,7 +198,7 @@ fn read_tree(
     stop: usize,
     at: usize,
     ch: Charges,
-) -> Reading
+) -> Result<Parsed, Refusal>
     requires { Held form.now room.old ch × Stretch form.now stop at × (stop - at ≤ length wait.old) }
     ensures { ReadOk form.now room.old room.new stop at ch (next_tree (left_from form.now at stop ch.units)) result }
 {
@@ -222,28 +211,32 @@ fn read_tree(
             k += 1;
             next += 1;
         } else {
-            match read_atom(form, room, stop, next, spent) {
-                Reading::Refused(e) => return Reading::Refused(e),
-                Reading::Node(q, m, c) => match close(form, room, wait, k, q, c) {
-                    Err(over) => return Reading::Refused(over),
-                    Ok(Closed { node, left, ch }) => {
-                        if left == 0 {
-                            return Reading::Node(node, m, ch);
-                        }
-                        wait[left - 1] = node as u16;
-                        k = left;
-                        next = m;
-                        spent = ch;
-                    }
-                },
+            let atom = read_atom(form, room, stop, next, spent)?;
+            let whole = close(form, room, wait, k, atom.node, atom.ch)?;
+            if whole.left == 0 {
+                return Ok(Parsed {
+                    node: whole.node,
+                    next: atom.next,
+                    ch: whole.ch,
+                });
             }
+            wait[whole.left - 1] = whole.node as u16;
+            k = whole.left;
+            next = atom.next;
+            spent = whole.ch;
         }
     }
-    Reading::Refused(Refusal::EndsEarly)
+    Err(Refusal::EndsEarly)
 }
 
 // One tree, from at on, of at most 8,192 bytes. A short one is spared the clearing of many entries.
-pub fn read_node(form: &[u8], room: &mut [u8], stop: usize, at: usize, ch: Charges) -> Reading
+pub fn read_node(
+    form: &[u8],
+    room: &mut [u8],
+    stop: usize,
+    at: usize,
+    ch: Charges,
+) -> Result<Parsed, Refusal>
     requires { Held form.now room.old ch × Stretch form.now stop at × (stop - at ≤ form_limit) }
     ensures { ReadOk form.now room.old room.new stop at ch (next_tree (left_from form.now at stop ch.units)) result }
 {
@@ -256,23 +249,24 @@ pub fn read_node(form: &[u8], room: &mut [u8], stop: usize, at: usize, ch: Charg
 }
 
 // One tree and no more, of at most 8,192 bytes: form[from..stop].
-pub fn read_form(form: &[u8], room: &mut [u8], from: usize, stop: usize, ch: Charges) -> Made
+pub fn read_form(
+    form: &[u8],
+    room: &mut [u8],
+    from: usize,
+    stop: usize,
+    ch: Charges,
+) -> Result<Made, Refusal>
     requires { Held form.now room.old ch × (from ≤ stop) × (stop ≤ length form.now) × (from ≤ form_limit) }
     ensures { FormOk form.now room.old room.new stop from ch result }
 {
     if FORM < stop - from {
-        return Made::Refused(Refusal::FormLong);
+        return Err(Refusal::FormLong);
     }
-    match read_node(form, room, stop, from, ch) {
-        Reading::Refused(e) => Made::Refused(e),
-        Reading::Node(n, next, c) => {
-            if next < stop {
-                Made::Refused(Refusal::BytesAfter)
-            } else {
-                Made::Node(n, c)
-            }
-        }
+    let Parsed { node, next, ch } = read_node(form, room, stop, from, ch)?;
+    if next < stop {
+        return Err(Refusal::BytesAfter);
     }
+    Ok(Made { node, ch })
 }
 
 // ---- writing
@@ -306,33 +300,21 @@ fn atom_length(b: &[u8]) -> usize
 
 // How many bytes the tree of node n is written in, where that is at most limit. Parts may be shared, so
 // a tree may be far larger than its store: every node looked at takes a byte of the limit.
-pub fn length_node<'a>(form: &'a [u8], room: &'a [u8], n: usize, limit: usize) -> Extent
+pub fn length_node<'a>(form: &'a [u8], room: &'a [u8], n: usize, limit: usize) -> Option<usize>
     requires { Writable form.now room.now n }
     ensures { result ≡ extent limit (length (write (tree_in form.now room.now n))) }
 {
     match store::look_node(room, n) {
         Cell::Pair(l, r) => {
             if limit == 0 {
-                return Extent::Over;
+                return None;
             }
-            match length_node(form, room, l, limit - 1) {
-                Extent::Over => Extent::Over,
-                Extent::Long(a) => {
-                    let k = 1 + a;
-                    match length_node(form, room, r, limit - k) {
-                        Extent::Over => Extent::Over,
-                        Extent::Long(b) => Extent::Long(k + b),
-                    }
-                }
-            }
+            let k = 1 + length_node(form, room, l, limit - 1)?;
+            Some(k + length_node(form, room, r, limit - k)?)
         }
         Cell::Atom => {
             let k = atom_length(store::atom_bytes(form, room, n));
-            if limit < k {
-                Extent::Over
-            } else {
-                Extent::Long(k)
-            }
+            if limit < k { None } else { Some(k) }
         }
     }
 }
@@ -417,33 +399,31 @@ pub fn stands_at<'a>(form: &'a [u8], at: usize, b: &'a [u8]) -> bool
 }
 
 // The place after the atom of these bytes, if it stands written in form from at on.
-fn follow_atom<'a>(form: &'a [u8], b: &'a [u8], at: usize) -> Followed
+fn follow_atom<'a>(form: &'a [u8], b: &'a [u8], at: usize) -> Option<usize>
     requires { (length b.now ≤ atom_most) × (at ≤ length form.now) }
     ensures { result ≡ followed form.now at (write_atom b.now) }
 {
     let mut written = [0u8; 258];
     let k = put_atom(b, &mut written);
     if stands_at(form, at, &written[..k]) {
-        Followed::To(at + k)
+        Some(at + k)
     } else {
-        Followed::Off
+        None
     }
 }
 
 // The place after the tree of node n, if it stands written in form from at on. Every node looked at takes a byte of form, or is the last.
-pub fn follow_node<'a>(form: &'a [u8], room: &'a [u8], n: usize, at: usize) -> Followed
+pub fn follow_node<'a>(form: &'a [u8], room: &'a [u8], n: usize, at: usize) -> Option<usize>
     requires { Writable form.now room.now n × (at ≤ length form.now) }
     ensures { result ≡ followed form.now at (write (tree_in form.now room.now n)) }
 {
     match store::look_node(room, n) {
         Cell::Pair(l, r) => {
             if form.len() <= at || form[at] != 0xff {
-                return Followed::Off;
+                return None;
             }
-            match follow_node(form, room, l, at + 1) {
-                Followed::Off => Followed::Off,
-                Followed::To(m) => follow_node(form, room, r, m),
-            }
+            let middle = follow_node(form, room, l, at + 1)?;
+            follow_node(form, room, r, middle)
         }
         Cell::Atom => follow_atom(form, store::atom_bytes(form, room, n), at),
     }
@@ -452,14 +432,12 @@ pub fn follow_node<'a>(form: &'a [u8], room: &'a [u8], n: usize, at: usize) -> F
 // ---- delivering
 
 // Writes the tree of node n to the front of out where it fits: measured first, so that refusal 14 leaves the output as it came in.
-pub fn deliver_node<'a>(form: &'a [u8], room: &'a [u8], n: usize, out: &mut [u8]) -> Extent
+pub fn deliver_node<'a>(form: &'a [u8], room: &'a [u8], n: usize, out: &mut [u8]) -> Option<usize>
     requires { Writable form.now room.now n }
     ensures { Delivered (write (tree_in form.now room.now n)) out.old out.new result }
 {
-    match length_node(form, room, n, out.len()) {
-        Extent::Over => Extent::Over,
-        Extent::Long(_) => Extent::Long(write_node(form, room, n, out)),
-    }
+    length_node(form, room, n, out.len())?;
+    Some(write_node(form, room, n, out))
 }
 
 // ---- two forms in one slice
@@ -472,22 +450,22 @@ fn cut(forms: &[u8], first: usize) -> usize
 }
 
 // Reads forms[..mid] and then the rest, on one budget of units, whatever the room held.
-fn read_parts(forms: &[u8], room: &mut [u8], mid: usize) -> Two
+fn read_parts(forms: &[u8], room: &mut [u8], mid: usize) -> Result<Two, Refusal>
     requires { (room_least ≤ length room.old) × (mid ≤ length forms.now) }
     ensures { TwoOk forms.now room.new (read_both (take mid forms.now) (drop mid forms.now)) result }
 {
     let ch = store::start(forms, room);
-    match read_form(forms, room, 0, mid, ch) {
-        Made::Refused(e) => Two::Refused(e),
-        Made::Node(a, c) => match read_form(forms, room, mid, forms.len(), c) {
-            Made::Refused(e) => Two::Refused(e),
-            Made::Node(b, d) => Two::Nodes(a, b, d),
-        },
-    }
+    let first = read_form(forms, room, 0, mid, ch)?;
+    let second = read_form(forms, room, mid, forms.len(), first.ch)?;
+    Ok(Two {
+        first: first.node,
+        second: second.node,
+        ch: second.ch,
+    })
 }
 
 // Reads the first bytes as one form, and what follows them as another.
-pub fn read_two(forms: &[u8], room: &mut [u8], first: usize) -> Two
+pub fn read_two(forms: &[u8], room: &mut [u8], first: usize) -> Result<Two, Refusal>
     requires { room_least ≤ length room.old }
     ensures { TwoOk forms.now room.new (read_both (take first forms.now) (drop first forms.now)) result }
 {
@@ -498,7 +476,7 @@ pub fn read_two(forms: &[u8], room: &mut [u8], first: usize) -> Two
 // ---- on bytes alone
 
 // Reads the form, in a room that has been started.
-pub fn read_whole(form: &[u8], room: &mut [u8]) -> Made
+pub fn read_whole(form: &[u8], room: &mut [u8]) -> Result<Made, Refusal>
     requires { room_least ≤ length room.old }
     ensures { WholeOk form.now room.new result }
 {
@@ -507,18 +485,15 @@ pub fn read_whole(form: &[u8], room: &mut [u8]) -> Made
 }
 
 // The units that the form costs. The room is all zero after, but for refusal 1.
-pub fn read(form: &[u8], room: &mut [u8]) -> ReadAnswer
+pub fn read(form: &[u8], room: &mut [u8]) -> Result<usize, Refusal>
     ensures { Settles read_says (read_outcome form.now (length room.old)) room.old room.new [] [] result }
 {
     if room.len() < ROOM {
-        return ReadAnswer::Refused(Refusal::RoomSmall);
+        return Err(Refusal::RoomSmall);
     }
     let m = read_whole(form, room);
     store::zero_room(room);
-    match m {
-        Made::Node(_, c) => ReadAnswer::Read(c.units),
-        Made::Refused(e) => ReadAnswer::Refused(e),
-    }
+    Ok(m?.ch.units)
 }
 
 // Writes the node, which stands for the form's tree, where it fits.
@@ -528,32 +503,32 @@ fn deliver<'a>(
     n: usize,
     units: usize,
     out: &mut [u8],
-) -> WriteAnswer
+) -> Result<Written, Refusal>
     requires { Writable form.now room.now n }
     ensures { Delivers write_says (deliver_tree (length out.old) (tree_in form.now room.now n) (units ∷ [])) out.old out.new result }
 {
     match deliver_node(form, room, n, out) {
-        Extent::Over => WriteAnswer::Refused(Refusal::OutputShort),
-        Extent::Long(k) => WriteAnswer::Written(k, units),
+        Some(length) => Ok(Written { length, units }),
+        None => Err(Refusal::OutputShort),
     }
 }
 
 // Reads the form and writes its tree again. The room is all zero after, but for refusal 1.
-pub fn write(form: &[u8], room: &mut [u8], out: &mut [u8]) -> WriteAnswer
+pub fn write(form: &[u8], room: &mut [u8], out: &mut [u8]) -> Result<Written, Refusal>
     ensures { Settles write_says (write_outcome form.now (length room.old) (length out.old)) room.old room.new out.old out.new result }
 {
     if room.len() < ROOM {
-        return WriteAnswer::Refused(Refusal::RoomSmall);
+        return Err(Refusal::RoomSmall);
     }
     match read_whole(form, room) {
-        Made::Node(n, c) => {
-            let a = deliver(form, room, n, c.units, out);
+        Ok(Made { node, ch }) => {
+            let a = deliver(form, room, node, ch.units, out);
             store::zero_room(room);
             a
         }
-        Made::Refused(e) => {
+        Err(e) => {
             store::zero_room(room);
-            WriteAnswer::Refused(e)
+            Err(e)
         }
     }
 }

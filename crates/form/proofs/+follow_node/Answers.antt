@@ -12,17 +12,17 @@ returns-then-form-at t c =
 pub follow_node-requires : goal.follow_node-requires
 follow_node-requires t c = (search laws.falls_left, (search laws.writable_left, search rules))
 
-pub follow_node-requires-in-To : goal.follow_node-requires-in-To
-follow_node-requires-in-To t c = (search laws.falls_right, (search laws.writable_right, search following.left_inside))
+pub follow_node-requires-in-Pair : goal.follow_node-requires-in-Pair
+follow_node-requires-in-Pair t c = (search laws.falls_right, (search laws.writable_right, search (following.left_inside, c.in_ok-middle-in-Pair.was)))
 
 pub follow_atom-requires : goal.follow_atom-requires
 follow_atom-requires t c = (search laws.atom_few, search rules)
 
-pub returns-in-Off : goal.returns-in-Off
-returns-in-Off t c = search following.pair_left_off
+pub returns-in_err-middle-in-Pair : goal.returns-in_err-middle-in-Pair
+returns-in_err-middle-in-Pair t c = rw c.from_residual.ensures (search (following.pair_left_off, c.in_err-middle-in-Pair.was))
 
-pub returns-in-To : goal.returns-in-To
-returns-in-To t c = search following.pair_followed
+pub returns-in_ok-middle-in-Pair : goal.returns-in_ok-middle-in-Pair
+returns-in_ok-middle-in-Pair t c = search (following.pair_followed, c.in_ok-middle-in-Pair.was)
 
 pub returns-in-Atom : goal.returns-in-Atom
 returns-in-Atom t c = search following.leaf_followed

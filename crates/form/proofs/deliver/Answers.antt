@@ -2,8 +2,8 @@
 use Rattle.form.proofs.Bytes as laws
 use Rattle.form.proofs.deliver.Goals as goal
 
-pub returns-in-Over : goal.returns-in-Over
-returns-in-Over c = search laws.deliver_short
+pub returns-in-None : goal.returns-in-None
+returns-in-None c = search laws.deliver_short
 
-pub returns-in-Long : goal.returns-in-Long
-returns-in-Long c = search laws.deliver_done
+pub returns-in-Some : goal.returns-in-Some
+returns-in-Some c = search laws.deliver_done

@@ -4,10 +4,10 @@ use borrow.Author.Rules.{rules}
 use Rattle.form.proofs.deliver_node.Goals as goal
 
 pub write_node-requires : goal.write_node-requires
-write_node-requires c = (search rules, search laws.all_fits)
+write_node-requires c = (search rules, search (laws.all_fits, c.in_ok-length_node.was))
 
-pub returns-in-Over : goal.returns-in-Over
-returns-in-Over c = search laws.none_written
+pub returns-in_err-length_node : goal.returns-in_err-length_node
+returns-in_err-length_node c = rw c.from_residual.ensures (search (laws.none_written, c.in_err-length_node.was))
 
-pub returns-in-Long : goal.returns-in-Long
-returns-in-Long c = search laws.all_written
+pub returns : goal.returns
+returns c = search (laws.all_written, c.in_ok-length_node.was)

@@ -7,8 +7,8 @@ returns-then-room-lt-ROOM c = search laws.write_small
 pub deliver-a-requires : goal.deliver-a-requires
 deliver-a-requires c = search laws.whole_writable
 
-pub returns-in-Node : goal.returns-in-Node
-returns-in-Node c = search laws.write_done
+pub returns-in-Ok : goal.returns-in-Ok
+returns-in-Ok c = search laws.write_done
 
-pub returns-in-Refused : goal.returns-in-Refused
-returns-in-Refused c = search laws.write_refused
+pub returns-in-Err : goal.returns-in-Err
+returns-in-Err c = search laws.write_refused
