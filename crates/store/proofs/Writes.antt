@@ -1,7 +1,7 @@
 -- Writes to a stretch of a list of bytes: what they leave, and what is read back.
-use Rattle.std.proofs.Common.{◌≡◌, ℕ, suc, ◌+◌, ◌-◌, ◌/◌, ◌%◌, ◌<◌, ◌≤◌, List, length, get_or, drop, set, sym, ap, ◌∙◌, arith, length-drop, length-set, get_or-drop, get_or-set_other, get_or-set_same, ext_get_or, add-one, append_assoc}
+use Rattle.std.proofs.Common.{◌≡◌, ℕ, suc, ◌+◌, ◌-◌, ◌/◌, ◌%◌, ◌<◌, ◌≤◌, List, length, get_or, take, drop, set, sym, ap, ◌∙◌, arith, length-drop, length-set, get_or-drop, get_or-take, get_or-set_other, get_or-set_same, ext_get_or, add-one, add-zero, add_assoc, append_assoc, lit<}
 use borrow.Rule.Slice.PartMut.{put_mid}
-use Rattle.std.specs.Int.{w16, w64, to_le_bytes}
+use Rattle.std.specs.Int.{w16, w64, to_le_bytes, from_le_bytes}
 use Rattle.std.proofs.lemmas.List.{drop-drop}
 use Rattle.std.proofs.lemmas.List.Edits.{sets, sets-eq}
 use Rattle.store.specs.Cells.{num16, num32, num64, put16, put32, put64, Writes}
@@ -124,3 +124,17 @@ put64_bytes s i k x h hx e =
     let b₆ : x / 4294967296 / 65536 % 256 ≡ x / 281474976710656 % 256 = omega arith in
     let b₇ : x / 4294967296 / 65536 / 256 ≡ x / 72057594037927936 % 256 = omega arith in
     a ∙ cc
+
+-- the bytes of a number, read from a part
+pub num16_bytes : (s bs : List ℕ) (i : ℕ) → bs ≡ take 2 (drop i s) → from_le_bytes w16 bs ≡ num16 s i
+unfolding num16
+num16_bytes s bs i e =
+    let at : (k : ℕ) → k < 2 → get_or bs k 0 ≡ get_or s (i + k) 0 = λ k h. rw (e, get_or-take 2 (drop i s) k 0 h) (get_or-drop i s k 0) in
+    rw (at 0 (lit< tt), at 1 (lit< tt), add-zero)
+
+pub num64_bytes : (s bs : List ℕ) (i : ℕ) → bs ≡ take 8 (drop i s) → from_le_bytes w64 bs ≡ num64 s i
+unfolding num64 num32 num16
+num64_bytes s bs i e =
+    let at : (k : ℕ) → k < 8 → get_or bs k 0 ≡ get_or s (i + k) 0 = λ k h. rw (e, get_or-take 8 (drop i s) k 0 h) (get_or-drop i s k 0) in
+    rw (at 0 (lit< tt), at 1 (lit< tt), at 2 (lit< tt), at 3 (lit< tt), at 4 (lit< tt), at 5 (lit< tt), at 6 (lit< tt), at 7 (lit< tt))
+    (simp (add_assoc, add-zero) (omega arith))

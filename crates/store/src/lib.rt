@@ -45,23 +45,16 @@ fn num(room: &[u8], i: usize) -> usize
     requires { i + 1 < length room.now }
     ensures { (result ≡ num16 room.now i) × (result < 65536) }
 {
-    usize::from(u16::from_le_bytes([room[i], room[i + 1]]))
+    let bytes: [u8; 2] = room[i..i + 2].try_into().unwrap();
+    usize::from(u16::from_le_bytes(bytes))
 }
 
 fn num8(room: &[u8], i: usize) -> u64
     requires { i + 7 < length room.now }
     ensures { result ≡ num64 room.now i }
 {
-    u64::from_le_bytes([
-        room[i],
-        room[i + 1],
-        room[i + 2],
-        room[i + 3],
-        room[i + 4],
-        room[i + 5],
-        room[i + 6],
-        room[i + 7],
-    ])
+    let bytes: [u8; 8] = room[i..i + 8].try_into().unwrap();
+    u64::from_le_bytes(bytes)
 }
 
 fn put(room: &mut [u8], i: usize, x: usize)

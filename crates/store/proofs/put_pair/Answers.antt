@@ -1,11 +1,7 @@
 -- put_pair: an answer for each need; what carries weight stands in the laws.
-use Rattle.std.proofs.Common.{arith, length-set}
 use Rattle.store.specs.Cells.{pair_put}
 use Rattle.store.proofs.put_pair.Goals as goal
 
 pub returns : goal.returns
 unfolding pair_put
 returns c = cc
-
-pub shape_of-room : goal.shape_of-room
-shape_of-room c = simp length-set (omega arith)
