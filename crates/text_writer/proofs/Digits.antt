@@ -12,16 +12,6 @@ use borrow.Author.Tests.{lt-ltb, le-ltb}
 use Rattle.notation.specs.Words.{hex_digit, hex}
 use Rattle.form.specs.Writes.{Wrote}
 
--- ---- a digit
-
-pub digit_low : (d : ℕ) → d < 10 → 0x30 + d ≡ hex_digit d
-unfolding hex_digit
-digit_low d h = rw (lt-ltb d 10 h, hex_digit)
-
-pub digit_high : (d : ℕ) → 10 ≤ d → 0x57 + d ≡ hex_digit d
-unfolding hex_digit
-digit_high d h = rw (le-ltb d 10 h, hex_digit)
-
 -- ---- digits
 
 pub hex_length : (b : List ℕ) → length (hex b) ≡ 2 * length b

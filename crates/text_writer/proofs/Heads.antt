@@ -19,24 +19,6 @@ use Rattle.meaning.proofs.Tests.{on_bool}
 use Rattle.notation.specs.Texts.{head_in, is_one, after, place_after}
 use Rattle.text_writer.specs.Parts.{part_place, first_byte}
 
--- ---- the head of a list
-
-pub place_rest : (rest : Bool) (p : Place) → rest ≡ true → p ≡ part_place rest p
-unfolding part_place
-place_rest rest p e = rw e
-
-pub place_head : (rest : Bool) (p q : Place) → q ≡ head_in p → rest ≡ false → q ≡ part_place rest p
-unfolding part_place
-place_head rest p q i e = rw e i
-
-pub first_rest : (rest : Bool) → rest ≡ true → 0x20 ≡ first_byte rest
-unfolding first_byte
-first_rest rest e = rw e
-
-pub first_head : (rest : Bool) → rest ≡ false → 0x28 ≡ first_byte rest
-unfolding first_byte
-first_head rest e = rw e
-
 -- ---- the atom 1
 
 pub one_pair : (f s : List ℕ) (n l r : ℕ) (q : Cell) → q ≡ Pair l r → q ≡ cell_at s n → false ≡ is_one (tree_at f s n)

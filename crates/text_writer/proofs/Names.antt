@@ -26,12 +26,6 @@ one_name : (x : ℕ) → has_name Operator (x ∷ []) ≡ (leb 1 x && leb x 9)
 unfolding has_name name_at name_of
 one_name x = on_bool (leb 1 x && leb x 9) (λ e. rw (e, has_name)) (λ e. rw (e, has_name))
 
-below_ten : (x : ℕ) → leb x 9 ≡ ltb x 10
-below_ten x = on_bool (ltb x 10) (λ e. le-leb x 9 (omega (arith, ltb-true x 10 e)) ∙ sym e) (λ e. lt-leb x 9 (omega (arith, ltb-false x 10 e)) ∙ sym e)
-
-positive : (x : ℕ) → (x ≡ 0 → ⊥) → 1 ≤ x
-positive x z = on_bool (ltb 0 x) (λ e. ltb-true 0 x e) (λ e. absurd (z (omega (arith, ltb-false 0 x e))))
-
 -- ---- whether there are bytes
 
 pub no_bytes : (b : List ℕ) (u : Bool) → u ≡ eqb (length b) 0 → u ≡ true → length b ≡ 0

@@ -103,6 +103,7 @@ fn last_length(p: Place, b: &[u8]) -> usize
 }
 
 // How many bytes an atom takes, as an expression or as the rest of a list.
+#[tactic(auto, unfolding(crate::specs::Parts::part_text, notation::specs::Texts::text_at))]
 fn end_length(p: Place, rest: bool, b: &[u8]) -> usize
     requires { length b.now ≤ atom_most }
     ensures { result ≡ length (part_text rest (atom b.now) p) }
@@ -114,6 +115,8 @@ fn end_length(p: Place, rest: bool, b: &[u8]) -> usize
     }
 }
 
+// A hex digit's text.
+#[tactic(auto, unfolding(notation::specs::Words::hex_digit))]
 fn hex_digit(d: u8) -> u8
     requires { d < 16 }
     ensures { result ≡ hex_digit d }
