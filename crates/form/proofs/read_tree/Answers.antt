@@ -1,5 +1,4 @@
 -- read_tree: byte by byte, with the pairs that wait. Assumes nothing.
-use native.Mathlib.Omega.{arith}
 use Rattle.form.proofs.Reader as laws
 use borrow.Author.Rules.{rules}
 use Rattle.form.proofs.read_tree.Goals as goal
@@ -7,14 +6,8 @@ use Rattle.form.proofs.read_tree.Goals as goal
 pub loop-next-init : goal.loop-next-init
 loop-next-init c = (search laws.going_starts, search rules)
 
-pub bounds-wait-k : goal.bounds-wait-k
-bounds-wait-k c = search laws.going_room
-
 pub loop-next-preserved-then-form-next : goal.loop-next-preserved-then-form-next
 loop-next-preserved-then-form-next c = (search laws.going_open, search rules)
-
-pub read_atom-requires : goal.read_atom-requires
-read_atom-requires c = (search laws.going_held, search laws.going_stretch, search rules, search rules)
 
 pub returns-in-Refused : goal.returns-in-Refused
 returns-in-Refused c = search laws.going_refused
@@ -24,9 +17,6 @@ close-requires c = (laws.going_ready c.loop-next.invariant.0 c.loop-next-test.tr
 
 pub returns-in-Err : goal.returns-in-Err
 returns-in-Err c = search laws.going_over
-
-pub shape_of-room-then-left-eq0 : goal.shape_of-room-then-left-eq0
-shape_of-room-then-left-eq0 c = omega (arith, c.loop-next.invariant.0.grown.long)
 
 pub returns-then-left-eq0 : goal.returns-then-left-eq0
 returns-then-left-eq0 c = search laws.going_done
