@@ -3,14 +3,12 @@ use Rattle.std.specs.Prelude.{Result, Ok, Err, Option, Some, None}
 use mathlib.Core.Path.{◌≡◌, refl, sym, ◌∙◌, ap}
 use mathlib.Core.List.{List, [], ◌∷◌, ◌++◌}
 use mathlib.Core.Bool.{Bool, true, false, ◌&&◌}
-use Prim.Native.Nat.{ℕ, suc, ◌+◌, ◌-◌, ◌^◌, ◌<◌, ◌≤◌}
+use Prim.Native.Nat.{ℕ, suc, ◌+◌, ◌-◌, ◌<◌, ◌≤◌}
 use native.Mathlib.Omega.{arith}
 use native.Mathlib.Decide.{dec_le}
 use lib.Dec.{eqb, leb, ltb}
 use lib.ListN.{length, take, drop, get_or, length-append, length-drop}
-use lib.Seq.{drop-cons, drop-drop, take_at, take_all, length-take-le}
-use mir.Syntax.{w64}
-use mir.Val.{Fits}
+use lib.Seq.{drop-cons, drop-drop, take_at, take_all}
 use borrow.Author.Tests.{lt-ltb, eq-eqb, ne_eqb}
 use Rattle.std.specs.Cmp.Lexicographic.{pointwise}
 use Rattle.meaning.specs.Tree.{atom, same_bytes}
@@ -119,16 +117,10 @@ module _ (f b buf buf₁ : List ℕ) (at k : ℕ) (d : Wrote (write_atom b) k bu
   pub prefix_few : k ≤ length buf₁
   prefix_few = omega (arith, d.count, ap (λ (x : List ℕ). length x) d.bytes, length-append (write_atom b) (drop (length (write_atom b)) buf))
 
-  pub prefix_long : k ≡ length (take k buf₁)
-  prefix_long = sym (length-take-le k buf₁ prefix_few)
-
   atom_front : take k buf₁ ≡ write_atom b
   atom_front = ap (take k) d.bytes ∙ take_at (write_atom b) (drop (length (write_atom b)) buf) k (sym d.count)
 
   module _ (r : Bool) (er : r ≡ stands f at (take k buf₁)) where
-    pub place_fits : r ≡ true → at ≤ length f → length f < 2 ^ 64 → Fits w64 (at + k)
-    place_fits e l h = record { fits = omega (arith, h, d.count, stands_within f at (write_atom b) l (ap (stands f at) (sym atom_front) ∙ sym er ∙ e)) }
-
     pub atom_stands : r ≡ true → Some (at + k) ≡ followed f at (write_atom b)
     atom_stands e = let z : stands f at (write_atom b) ≡ true = ap (stands f at) (sym atom_front) ∙ sym er ∙ e in ap (λ (n : ℕ). Some (at + n)) d.count ∙ sym (follows f at (write_atom b) z)
 

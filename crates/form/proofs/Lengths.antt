@@ -36,15 +36,6 @@ pub record Counted (f : List ℕ) (end at k v n i : ℕ) : Type 0 where
   pub small : n < 64 * 256 ^ i
   pub so : (u : ℕ) → more k v (left_from f at end u) ≡ more (k - i) n (left_from f (at + i) end u)
 
-pub count_starts : (f : List ℕ) (end at k v : ℕ) → at ≤ end → end ≤ length f → k ≤ 4 → v < 64 → k ≤ end - at → Counted f end at k v v 0
-count_starts f end at k v h e few l m = record {
-  within = omega arith;
-  few = few;
-  inside = omega arith;
-  ends = e;
-  small = l;
-  so = λ u. let z : at + 0 ≡ at = omega arith in let y : k - 0 ≡ k = omega arith in rw (z, y);
-}
 
 -- where fewer than k bytes are left
 none_more : (f : List ℕ) (end u k at v : ℕ) → end ≤ length f → end - at < k → Stops (more k v (left_from f at end u)) EndsEarly

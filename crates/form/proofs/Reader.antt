@@ -23,7 +23,7 @@ use Rattle.store.specs.declared.Made.{Made}
 use Rattle.store.specs.Nodes.{tree_at}
 use Rattle.store.specs.Store.{Held, Ready}
 use Rattle.store.specs.Makers.{Grown, Bought, Over, MadeOk}
-use Rattle.store.proofs.Ready.{small, nil_ready, grown_none, grown_both}
+use Rattle.store.proofs.Ready.{nil_ready, grown_none, grown_both}
 use Rattle.form.specs.declared.Parsed.{Parsed}
 use Rattle.form.specs.declared.Closed.{Closed}
 use Rattle.form.specs.Spans.{span, left_from, next_tree, Stops, LengthOk}
@@ -139,9 +139,6 @@ pub record Closing (f s₀ s w : List ℕ) (k q : ℕ) (c₀ c : Charges) (node 
   pub free : c.free ≡ c₀.free
   pub is : (l : List ℕ) → resume f s₀ w k (tree_at f s₀ q) (record { left = l; units = c₀.units }) ≡ resume f s w left (tree_at f s node) (record { left = l; units = c.units })
 
-pub close_starts : (f s w : List ℕ) (k q : ℕ) (c : Charges) → Ready f s c q → Waits f s w c k → Closing f s s w k q c c q k
-close_starts f s w k q c r a = record { fewer = omega arith; grown = grown_none f s c r.held; ready = r; waits = a; free = refl; is = λ l. refl }
-
 module _ (f s₀ s w : List ℕ) (k q : ℕ) (c₀ c : Charges) (node left : ℕ) (a : Closing f s₀ s w k q c₀ c node left) where
   closed : (0 < left → get_or w (left - 1) 0 ≡ 0xffff) → ClosedOk f s₀ s w k q c₀ (Ok (record { node = node; left = left; ch = c }))
   unfolding ClosedOk
@@ -160,9 +157,6 @@ module _ (f s₀ s w : List ℕ) (k q : ℕ) (c₀ c : Charges) (node left : ℕ
 
     less : left ≡ suc (left - 1)
     less = omega arith
-
-    pub close_left : Ready f s c v
-    close_left = a.waits.nodes (left - 1) (omega arith) n
 
     one_less : (l : List ℕ) → resume f s₀ w k (tree_at f s₀ q) (record { left = l; units = c₀.units }) ≡ resume f s w (suc (left - 1)) (tree_at f s node) (record { left = l; units = c.units })
     one_less l = a.is l ∙ ap (λ (j : ℕ). resume f s w j (tree_at f s node) (record { left = l; units = c.units })) less
@@ -248,12 +242,6 @@ module _ {f s₀ s w : List ℕ} {end at : ℕ} {c₀ c : Charges} {k next : ℕ
               ∙ resume_open f s (set w k 0xffff) k next end c.units h a.lent e (get_or-set_same w k 0xffff 0 o)
               ∙ ap (λ (j : ℕ). (next_tree >>= resume f s (set w k 0xffff) j) (left_from f (next + 1) end c.units)) (sym i);
         }
-
-    pub going_held : Held f s c
-    going_held = a.grown.held
-
-    pub going_stretch : Stretch f end next
-    going_stretch = record { inside = a.within; lent = a.lent; small = a.small }
 
     module _ (s₁ : List ℕ) {r : Result Parsed Refusal} (o : ReadOk f s s₁ end (next + 1) c (next_tree (left_from f next end c.units)) r) where
       pub going_refused : {n : Refusal} → r ≡ Err n → ReadOk f s₀ s₁ end at c₀ (next_tree (left_from f at end c₀.units)) (Err n)

@@ -6,13 +6,13 @@ use mathlib.Core.Bool.{Bool, true, false}
 use Prim.Native.Nat.{ℕ, suc, ◌+◌, ◌-◌, ◌/◌, ◌%◌, ◌^◌, ◌<◌, ◌≤◌}
 use native.Mathlib.Omega.{arith}
 use lib.ListN.{length, drop, get_or, set, length-set, length-append}
-use lib.Dec.{leb}
+use lib.Dec.{leb, eqb}
 use mir.Syntax.{w64}
 use mir.Val.{Fits}
-use borrow.Author.Tests.{lt-ltb, le-ltb, le-leb, lt-leb, leb-true, leb-false}
+use borrow.Author.Tests.{lt-ltb, le-ltb, le-leb, lt-leb, leb-true, leb-false, eq-eqb}
 use Rattle.meaning.specs.Tree.{atom, pair}
 use Rattle.meaning.specs.Form.{write_length, write_atom, write, needs_prefix}
-use Rattle.meaning.proofs.Tests.{on_bool}
+use Rattle.meaning.proofs.Tests.{on_bool, eqb_sound, not_true}
 use Rattle.store.specs.declared.Cell.{Cell}
 use Rattle.store.specs.declared.Cell.TheVariants.{Pair, Atom}
 use Rattle.store.specs.Cells.{cell_at, bytes_at}
@@ -84,23 +84,18 @@ module _ (b : List ℕ) (v : Bool) (e : v ≡ needs_prefix b) where
     pub alone_fits : v ≡ false → 0 < length out
     alone_fits f = omega (arith, alone_length f)
 
-    pub none_wrote : v ≡ false → length b ≡ 0 → Wrote (write_atom b) 1 out (set out 0 128)
-    none_wrote f z = rw (written_none b z) (one_set out 128 (alone_fits f))
+    module _ (w : Bool) (g : w ≡ eqb (length b) 0) where
+      pub none_wrote : v ≡ false → w ≡ true → Wrote (write_atom b) 1 out (set out 0 128)
+      none_wrote f z = rw (written_none b (eqb_sound (length b) 0 (sym g ∙ z))) (one_set out 128 (alone_fits f))
 
-    pub byte_wrote : v ≡ false → (length b ≡ 0 → ⊥) → Wrote (write_atom b) 1 out (set out 0 (get_or b 0 0))
-    byte_wrote f z = rw (written_byte b (sym e ∙ f) z) (one_set out (get_or b 0 0) (alone_fits f))
+      pub byte_wrote : v ≡ false → w ≡ false → Wrote (write_atom b) 1 out (set out 0 (get_or b 0 0))
+      byte_wrote f z = rw (written_byte b (sym e ∙ f) (λ n. not_true (sym (eq-eqb (length b) 0 n) ∙ sym g ∙ z))) (one_set out (get_or b 0 0) (alone_fits f))
 
 -- a copy of b into what remains
 copied : (b xs ys : List ℕ) (a : ℕ) → ys ≡ b ++ drop (length b) (lent xs a) → Wrote b (length b) (lent xs a) ys
 copied b xs ys a e = record { count = refl; bytes = e }
 
 module _ (b out : List ℕ) where
-  pub short_room : length b < length out → length b ≤ length (lent (set out 0 (128 + length b)) 1)
-  short_room h = omega (arith, lent_length (set out 0 (128 + length b)) 1, length-set out 0 (128 + length b))
-
-  pub short_start : length b < length out → 1 ≤ length (set out 0 (128 + length b))
-  short_start h = omega (arith, length-set out 0 (128 + length b))
-
   module _ (ys : List ℕ) where
     pub short_wrote : ys ≡ b ++ drop (length b) (lent (set out 0 (128 + length b)) 1) → needs_prefix b ≡ true → length b < 64 → length b < length out
         → Wrote (write_atom b) (length b + 1) out (back (set out 0 (128 + length b)) 1 ys)
@@ -109,27 +104,6 @@ module _ (b out : List ℕ) where
         let d : Wrote (p ++ b) (1 + length b) out (back (set out 0 (128 + length b)) 1 ys) =
         then_wrote p b out (set out 0 (128 + length b)) ys 1 (length b) (one_set out (128 + length b) (omega arith)) (copied b (set out 0 (128 + length b)) ys 1 e) (omega arith) in
         rw (short_written b (needs_prefix b) refl f h) (record { count = omega (arith, d.count); bytes = d.bytes })
-
-    pub short_same : length ys ≡ length (lent (set out 0 (128 + length b)) 1) → length (back (set out 0 (128 + length b)) 1 ys) ≡ length out
-    short_same e = back_length (set out 0 (128 + length b)) 1 ys e ∙ length-set out 0 (128 + length b)
-
-  two : List ℕ
-  two = set (set out 0 (192 + length b / 256)) 1 (length b % 256)
-
-  two_length : length two ≡ length out
-  unfolding two
-  two_length = simp length-set
-
-  pub long_second : length b + 1 < length out → 1 < length (set out 0 (192 + length b / 256))
-  long_second h = omega (arith, length-set out 0 (192 + length b / 256))
-
-  pub long_start : length b + 1 < length out → 2 ≤ length (set (set out 0 (192 + length b / 256)) 1 (length b % 256))
-  unfolding two
-  long_start h = omega (arith, two_length)
-
-  pub long_room : length b + 1 < length out → length b ≤ length (lent (set (set out 0 (192 + length b / 256)) 1 (length b % 256)) 2)
-  unfolding two
-  long_room h = omega (arith, lent_length two 2, two_length)
 
   module _ (ys : List ℕ) where
     pub long_wrote : ys ≡ b ++ drop (length b) (lent (set (set out 0 (192 + length b / 256)) 1 (length b % 256)) 2) → needs_prefix b ≡ true → 64 ≤ length b → length b ≤ 256 → length b + 1 < length out
@@ -140,10 +114,6 @@ module _ (b out : List ℕ) where
         let d : Wrote (p ++ b) (2 + length b) out (back x 2 ys) =
         then_wrote p b out x ys 2 (length b) (two_set out (192 + length b / 256) (length b % 256) (omega arith)) (copied b x ys 2 e) (omega arith) in
         rw (long_written b (needs_prefix b) refl f h k) (record { count = omega (arith, d.count); bytes = d.bytes })
-
-    pub long_same : length ys ≡ length (lent (set (set out 0 (192 + length b / 256)) 1 (length b % 256)) 2) → length (back (set (set out 0 (192 + length b / 256)) 1 (length b % 256)) 2 ys) ≡ length out
-    unfolding two
-    long_same e = back_length two 2 ys e ∙ two_length
 
 -- ---- how long a tree is, where a limit allows it
 

@@ -362,7 +362,7 @@ pub fn put_atom(b: &[u8], out: &mut [u8]) -> usize
             put_long(b, out)
         };
     }
-    if b.len() == 0 {
+    if b.is_empty() {
         out[0] = 0x80;
         return 1;
     }

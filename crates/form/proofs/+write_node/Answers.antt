@@ -13,9 +13,6 @@ slice_bounds-write_node-start t c = search laws.after_first
 pub write_node-k-requires : goal.write_node-k-requires
 write_node-k-requires t c = (search laws.falls_left, (search laws.writable_left, search laws.left_fits))
 
-pub overflow_add-at : goal.overflow_add-at
-overflow_add-at t c = search laws.at_small
-
 pub slice_bounds-write_node-count-in-Pair : goal.slice_bounds-write_node-count-in-Pair
 slice_bounds-write_node-count-in-Pair t c = search laws.at_within
 
@@ -25,14 +22,8 @@ slice_bounds-write_node-start-in-Pair t c = search laws.at_within
 pub write_node-m-requires : goal.write_node-m-requires
 write_node-m-requires t c = (search laws.falls_right, (search laws.writable_right, search laws.right_fits))
 
-pub overflow_add-result : goal.overflow_add-result
-overflow_add-result t c = search laws.sum_small
-
 pub put_atom-requires : goal.put_atom-requires
 put_atom-requires t c = (search laws.atom_few, search laws.atom_fits)
-
-pub shape_of-out-in-Pair : goal.shape_of-out-in-Pair
-shape_of-out-in-Pair t c = search laws.pair_same
 
 pub returns-in-Pair : goal.returns-in-Pair
 returns-in-Pair t c = search laws.write_pair

@@ -9,12 +9,6 @@ put_atom-k-requires c = (search rules, search following.buffer_fits)
 -- no goal: array-share-prefix-b
 -- -- search following.prefix_few
 
-pub slice_bounds-stands_at-end : goal.slice_bounds-stands_at-end
-slice_bounds-stands_at-end c = search following.prefix_long
-
--- no goal: add-t14
--- -- search following.place_fits
-
 pub returns-then-stands_at : goal.returns-then-stands_at
 returns-then-stands_at c = search following.atom_stands
 

@@ -1,9 +1,6 @@
 use Rattle.form.proofs.Lengths as laws
 use Rattle.form.proofs.more.Goals as goal
 
-pub loop-b-init : goal.loop-b-init
-loop-b-init c = search laws.count_starts
-
 pub returns-then-stop-at : goal.returns-then-stop-at
 returns-then-stop-at c = search laws.count_none
 

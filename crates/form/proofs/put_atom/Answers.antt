@@ -11,8 +11,8 @@ put_long-requires c = (search laws.prefix_true, search rules, search rules, sear
 pub bounds-out-0 : goal.bounds-out-0
 bounds-out-0 c = search laws.alone_fits
 
-pub returns-then-b-eq0 : goal.returns-then-b-eq0
-returns-then-b-eq0 c = search laws.none_wrote
+pub returns-then-is_empty : goal.returns-then-is_empty
+returns-then-is_empty c = search laws.none_wrote
 
 pub bounds-out-0-2 : goal.bounds-out-0-2
 bounds-out-0-2 c = search laws.alone_fits

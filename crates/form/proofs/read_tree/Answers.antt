@@ -1,5 +1,4 @@
 -- read_tree: byte by byte, with the pairs that wait. Assumes nothing.
-use native.Mathlib.Omega.{arith}
 use Rattle.form.proofs.Reader as laws
 use borrow.Author.Rules.{rules}
 use Rattle.std.proofs.lemmas.Result.{err_from_is_err_and}
@@ -8,14 +7,8 @@ use Rattle.form.proofs.read_tree.Goals as goal
 pub loop-next-init : goal.loop-next-init
 loop-next-init c = (search laws.going_starts, search rules)
 
-pub bounds-wait-k : goal.bounds-wait-k
-bounds-wait-k c = search laws.going_room
-
 pub loop-next-preserved-then-form-next : goal.loop-next-preserved-then-form-next
 loop-next-preserved-then-form-next c = (search laws.going_open, search rules)
-
-pub read_atom-requires : goal.read_atom-requires
-read_atom-requires c = (search laws.going_held, search laws.going_stretch, search rules, search rules)
 
 pub returns-in_err-atom : goal.returns-in_err-atom
 returns-in_err-atom c = let p = err_from_is_err_and c.from_residual.result c.from_residual.ensures.1 in rw (p.1, p.2) (search (laws.going_refused, c.in_err-atom.was))
@@ -25,9 +18,6 @@ close-requires c = (laws.going_ready c.loop-next.invariant.0 c.loop-next-test.tr
 
 pub returns-in_err-whole : goal.returns-in_err-whole
 returns-in_err-whole c = let p = err_from_is_err_and c.from_residual-in_err-whole.result c.from_residual-in_err-whole.ensures.1 in rw (p.1, p.2) (search (laws.going_over, c.in_err-whole.was, c.in_ok-atom.was))
-
-pub shape_of-room-then-whole-eq0 : goal.shape_of-room-then-whole-eq0
-shape_of-room-then-whole-eq0 c = omega (arith, c.loop-next.invariant.0.grown.long)
 
 pub returns-then-whole-eq0 : goal.returns-then-whole-eq0
 returns-then-whole-eq0 c = search (laws.going_done, c.in_ok-atom.was, c.in_ok-whole.was)
