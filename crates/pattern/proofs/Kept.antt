@@ -1,4 +1,5 @@
 -- Bindings: what a growing store keeps of them, and what get and insert answer.
+use Rattle.std.specs.Prelude.{Option as Got, Some, None}
 use mathlib.Core.Path.{◌≡◌, refl, sym, ◌∙◌}
 use mathlib.Core.List.{List, [], ◌∷◌}
 use mathlib.Core.Bool.{Bool, true, false}
@@ -20,7 +21,6 @@ use Rattle.store.proofs.Ready as ready
 use Rattle.store.proofs.Trees.{cell_below, tree_pair, tree_atom}
 use Rattle.pattern.specs.declared.Bindings.{Bindings}
 use Rattle.pattern.specs.declared.Match.TheVariants.{Matched, TooManyNames}
-use Rattle.pattern.specs.declared.Got.TheVariants.{At, Nothing}
 use Rattle.pattern.specs.Bound.{binding_at, bindings_at, Named, Bound, no_bindings, inserted, match_at, BoundIn, got_at, GotIn, GotOk}
 
 -- ---- names
@@ -118,11 +118,11 @@ two : (k : ℕ) → k ≤ 2 → (k ≡ 0 → ⊥) → (k ≡ 1 → ⊥) → k �
 two k a b d = omega arith
 
 module _ (f s : List ℕ) (c : Charges) (ks : Bindings) (name : List ℕ) where
-  got_none : Bound f s c ks → none ≡ meaning.get name (bindings_at f s ks) → GotOk f s s c Nothing (meaning.get name (bindings_at f s ks))
+  got_none : Bound f s c ks → none ≡ meaning.get name (bindings_at f s ks) → GotOk f s s c None (meaning.get name (bindings_at f s ks))
   unfolding got_at GotIn
   got_none h e = record { answer = e; found = tt; grown = ready.grown_none f s c h.first_node.held }
 
-  bound_at : (n : ℕ) → Ready f s c n → some (tree_at f s n) ≡ meaning.get name (bindings_at f s ks) → GotOk f s s c (At n) (meaning.get name (bindings_at f s ks))
+  bound_at : (n : ℕ) → Ready f s c n → some (tree_at f s n) ≡ meaning.get name (bindings_at f s ks) → GotOk f s s c (Some n) (meaning.get name (bindings_at f s ks))
   unfolding got_at GotIn
   bound_at n r e = record { answer = e; found = r; grown = ready.grown_none f s c r.held }
 
@@ -132,25 +132,25 @@ module _ (f s : List ℕ) (c : Charges) (ks : Bindings) (name : List ℕ) where
   b₂ : meaning.Binding
   b₂ = binding_at f s ks.name_2 ks.node_2
 
-  pub got_zero : ks.count ≡ 0 → Bound f s c ks → GotOk f s s c Nothing (meaning.get name (bindings_at f s ks))
+  pub got_zero : ks.count ≡ 0 → Bound f s c ks → GotOk f s s c None (meaning.get name (bindings_at f s ks))
   unfolding bindings_at b₁ b₂
   got_zero e h = got_none h (get_zero name b₁ b₂ ks.count e)
 
   module _ (u : Bool) (eu : u ≡ same_bytes name (bytes_at f s ks.name_1)) where
-    pub got_first : u ≡ true → (ks.count ≡ 0 → ⊥) → Bound f s c ks → GotOk f s s c (At ks.node_1) (meaning.get name (bindings_at f s ks))
+    pub got_first : u ≡ true → (ks.count ≡ 0 → ⊥) → Bound f s c ks → GotOk f s s c (Some ks.node_1) (meaning.get name (bindings_at f s ks))
     unfolding bindings_at binding_at b₁ b₂
     got_first e z h = bound_at ks.node_1 h.first_node (get_first name b₁ b₂ ks.count z (sym e ∙ eu))
 
-    pub got_one : u ≡ false → ks.count ≡ 1 → Bound f s c ks → GotOk f s s c Nothing (meaning.get name (bindings_at f s ks))
+    pub got_one : u ≡ false → ks.count ≡ 1 → Bound f s c ks → GotOk f s s c None (meaning.get name (bindings_at f s ks))
     unfolding bindings_at binding_at b₁ b₂
     got_one e o h = got_none h (get_one name b₁ b₂ ks.count o (sym e ∙ eu))
 
     module _ (v : Bool) (ev : v ≡ same_bytes name (bytes_at f s ks.name_2)) (e : u ≡ false) (z : ks.count ≡ 0 → ⊥) (o : ks.count ≡ 1 → ⊥) where
-      pub got_second : v ≡ true → Bound f s c ks → GotOk f s s c (At ks.node_2) (meaning.get name (bindings_at f s ks))
+      pub got_second : v ≡ true → Bound f s c ks → GotOk f s s c (Some ks.node_2) (meaning.get name (bindings_at f s ks))
       unfolding bindings_at binding_at b₁ b₂
       got_second d h = bound_at ks.node_2 h.second_node (get_second name b₁ b₂ ks.count (two ks.count h.few z o) (sym e ∙ eu) (sym d ∙ ev))
 
-      pub got_neither : v ≡ false → Bound f s c ks → GotOk f s s c Nothing (meaning.get name (bindings_at f s ks))
+      pub got_neither : v ≡ false → Bound f s c ks → GotOk f s s c None (meaning.get name (bindings_at f s ks))
       unfolding bindings_at binding_at b₁ b₂
       got_neither d h = got_none h (get_none name b₁ b₂ ks.count (two ks.count h.few z o) (sym e ∙ eu) (sym d ∙ ev))
 

@@ -1,4 +1,5 @@
 -- What each call and each return of the matcher's functions needs. The premises stand in the order: latest call, tests, cells, nodes.
+use Rattle.std.specs.Prelude.{Option as Got, Some, None}
 use mathlib.Core.Path.{◌≡◌, refl, sym, ◌∙◌, ap}
 use mathlib.Core.List.{List, []}
 use mathlib.Core.Bool.{Bool, true, false, ◌&&◌, not}
@@ -21,8 +22,6 @@ use Rattle.sexp.specs.Tests.{is_byte_tree}
 use Rattle.pattern.specs.declared.Bindings.{Bindings}
 use Rattle.pattern.specs.declared.Match.{Match}
 use Rattle.pattern.specs.declared.Match.TheVariants.{Matched, NoMatch, TooManyNames}
-use Rattle.pattern.specs.declared.Got.{Got}
-use Rattle.pattern.specs.declared.Got.TheVariants.{At, Nothing}
 use Rattle.pattern.specs.Bound.{binding_at, bindings_at, Named, Bound, no_bindings, inserted, match_at, BoundIn, MatchOk, got_at, GotIn, GotOk}
 use Rattle.pattern.specs.Cases.{takes_any, in_parts}
 use Rattle.pattern.proofs.Trees as trees
@@ -52,7 +51,7 @@ pub bound_of : {f s s' : List ℕ} {c : Charges} {a : Match} {m : meaning.Match}
 unfolding BoundIn
 bound_of h e = rw e at h.bound
 
-pub found_of : {f s s' : List ℕ} {c : Charges} {g : Got} {t : Option Tree} {n : ℕ} → GotOk f s s' c g t → g ≡ At n → Ready f s' c n
+pub found_of : {f s s' : List ℕ} {c : Charges} {g : Got ℕ} {t : Option Tree} {n : ℕ} → GotOk f s s' c g t → g ≡ Some n → Ready f s' c n
 unfolding GotIn
 found_of h e = rw e at h.found
 
@@ -71,9 +70,9 @@ module _ (ks : List meaning.Binding) (n : List ℕ) (t : Tree) where
   unfolding meaning.unify_bindings
   not_found e = rw (← e, meaning.unify_bindings)
 
-module _ (f s : List ℕ) (c : Charges) (ks : Bindings) (z : List ℕ) (n m : ℕ) (g : Got) where
+module _ (f s : List ℕ) (c : Charges) (ks : Bindings) (z : List ℕ) (n m : ℕ) (g : Got ℕ) where
   -- the name is known
-  module _ (u : ℕ) (h : GotOk f s s c g (meaning.get z (bindings_at f s ks))) (e : g ≡ At u) (ez : z ≡ bytes_at f s n) where
+  module _ (u : ℕ) (h : GotOk f s s c g (meaning.get z (bindings_at f s ks))) (e : g ≡ Some u) (ez : z ≡ bytes_at f s n) where
     is_at : some (tree_at f s u) ≡ meaning.get (bytes_at f s n) (bindings_at f s ks)
     unfolding got_at
     is_at = rw (← ez) (rw e at h.answer)
@@ -96,7 +95,7 @@ module _ (f s : List ℕ) (c : Charges) (ks : Bindings) (z : List ℕ) (n m : �
       }
 
   -- it is not
-  pub unify_new : (a : Match) → a ≡ inserted ks n m → g ≡ Nothing → GotOk f s s c g (meaning.get z (bindings_at f s ks)) → z ≡ bytes_at f s n → Bound f s c ks → Named f s c n → Ready f s c m → MatchOk f s s c a (meaning.unify_bindings (bindings_at f s ks) (bytes_at f s n) (tree_at f s m))
+  pub unify_new : (a : Match) → a ≡ inserted ks n m → g ≡ None → GotOk f s s c g (meaning.get z (bindings_at f s ks)) → z ≡ bytes_at f s n → Bound f s c ks → Named f s c n → Ready f s c m → MatchOk f s s c a (meaning.unify_bindings (bindings_at f s ks) (bytes_at f s n) (tree_at f s m))
   unfolding got_at binding_at
   unify_new a ea e h ez b o r =
       let w : none ≡ meaning.get (bytes_at f s n) (bindings_at f s ks) = rw (← ez) (rw e at h.answer) in
@@ -317,14 +316,14 @@ pub from_none : (f s s₁ : List ℕ) (c : Charges) (a : Match) (x y : Tree) (k 
 from_none f s s₁ c a x y k h e = match_as (rw e (ap (meaning.match_sexp x y) (kept.none_are f s))) h
 
 module _ {f s s₁ : List ℕ} {c : Charges} {a : Match} {m : meaning.Match} where
-  pub got_matched : {g : Got} {ks : Bindings} (name : List ℕ) → GotOk f s₁ s₁ c g (meaning.get name (bindings_at f s₁ ks)) → MatchOk f s s₁ c a m → a ≡ Matched ks → GotOk f s s₁ c g (meaning.got name m)
+  pub got_matched : {g : Got ℕ} {ks : Bindings} (name : List ℕ) → GotOk f s₁ s₁ c g (meaning.get name (bindings_at f s₁ ks)) → MatchOk f s s₁ c a m → a ≡ Matched ks → GotOk f s s₁ c g (meaning.got name m)
   got_matched {g} {ks} name k h e = record { answer = k.answer ∙ got_in h e name; found = k.found; grown = h.grown }
 
-  pub got_no_match : (name : List ℕ) → MatchOk f s s₁ c a m → a ≡ NoMatch → GotOk f s s₁ c Nothing (meaning.got name m)
+  pub got_no_match : (name : List ℕ) → MatchOk f s s₁ c a m → a ≡ NoMatch → GotOk f s s₁ c None (meaning.got name m)
   unfolding got_at GotIn
   got_no_match name h e = record { answer = got_not h e name; found = tt; grown = h.grown }
 
-  pub got_too_many : (name : List ℕ) → MatchOk f s s₁ c a m → a ≡ TooManyNames → GotOk f s s₁ c Nothing (meaning.got name m)
+  pub got_too_many : (name : List ℕ) → MatchOk f s s₁ c a m → a ≡ TooManyNames → GotOk f s s₁ c None (meaning.got name m)
   unfolding got_at GotIn
   got_too_many name h e = record { answer = got_many h e name; found = tt; grown = h.grown }
 

@@ -1,4 +1,5 @@
 -- What bindings held by nodes stand for, and what the matcher answers.
+use Rattle.std.specs.Prelude.{Option as Got, Some, None}
 use Rattle.std.specs.Prelude.{ℕ, ◌≤◌, ◌≡◌, List, [], ◌∷◌, take, eqb}
 use Rattle.std.proofs.Math.Option.{Option, none, some}
 use Rattle.meaning.specs.Tree.{Tree}
@@ -12,8 +13,6 @@ use Rattle.store.specs.Makers.{Grown}
 use Rattle.pattern.specs.declared.Bindings.{Bindings}
 use Rattle.pattern.specs.declared.Match.{Match}
 use Rattle.pattern.specs.declared.Match.TheVariants.{Matched, NoMatch, TooManyNames}
-use Rattle.pattern.specs.declared.Got.{Got}
-use Rattle.pattern.specs.declared.Got.TheVariants.{At, Nothing}
 
 -- ---- bindings
 
@@ -70,16 +69,16 @@ pub record MatchOk (f s s' : List ℕ) (c : Charges) (a : Match) (m : meaning.Ma
 
 -- ---- what a name is bound to
 
-unfoldable pub got_at : List ℕ → List ℕ → Got → Option Tree
-got_at f s (At n) = some (tree_at f s n)
-got_at f s Nothing = none
+unfoldable pub got_at : List ℕ → List ℕ → Got ℕ → Option Tree
+got_at f s (Some n) = some (tree_at f s n)
+got_at f s None = none
 
-unfoldable pub GotIn : List ℕ → List ℕ → Charges → Got → Type 0
-GotIn f s c (At n) = Ready f s c n
-GotIn f s c Nothing = Unit {0}
+unfoldable pub GotIn : List ℕ → List ℕ → Charges → Got ℕ → Type 0
+GotIn f s c (Some n) = Ready f s c n
+GotIn f s c None = Unit {0}
 
 -- the answer, read in the room after, is t; what was found is a node; and nothing changed but what is remembered
-pub record GotOk (f s s' : List ℕ) (c : Charges) (g : Got) (t : Option Tree) : Type 0 where
+pub record GotOk (f s s' : List ℕ) (c : Charges) (g : Got ℕ) (t : Option Tree) : Type 0 where
   pub answer : got_at f s' g ≡ t
   pub found : GotIn f s' c g
   pub grown : Grown f s s' c c

@@ -30,12 +30,6 @@ pub enum Match {
     TooManyNames,
 }
 
-#[derive(Clone, Copy)]
-pub enum Got {
-    At(usize),
-    Nothing,
-}
-
 pub fn no_bindings() -> Bindings
     ensures { result ≡ no_bindings }
 {
@@ -59,23 +53,29 @@ fn same_name<'a>(form: &'a [u8], room: &'a [u8], n: usize, name: &'a [u8]) -> bo
 }
 
 // Rust's `bindings.get`: what a name is bound to.
-pub fn get<'a>(form: &'a [u8], room: &'a [u8], ch: Charges, ks: Bindings, name: &'a [u8]) -> Got
+pub fn get<'a>(
+    form: &'a [u8],
+    room: &'a [u8],
+    ch: Charges,
+    ks: Bindings,
+    name: &'a [u8],
+) -> Option<usize>
     requires { Bound form.now room.now ch ks }
     ensures { GotOk form.now room.now room.now ch result (meaning.get name.now (bindings_at form.now room.now ks)) }
 {
     if ks.count == 0 {
-        return Got::Nothing;
+        return None;
     }
     if same_name(form, room, ks.name_1, name) {
-        return Got::At(ks.node_1);
+        return Some(ks.node_1);
     }
     if ks.count == 1 {
-        return Got::Nothing;
+        return None;
     }
     if same_name(form, room, ks.name_2, name) {
-        return Got::At(ks.node_2);
+        return Some(ks.node_2);
     }
-    Got::Nothing
+    None
 }
 
 // A third name is one too many.
@@ -94,10 +94,9 @@ fn insert(ks: Bindings, name: usize, node: usize) -> Match
     if ks.count == 1 {
         return Match::Matched(Bindings {
             count: 2,
-            name_1: ks.name_1,
-            node_1: ks.node_1,
             name_2: name,
             node_2: node,
+            ..ks
         });
     }
     Match::TooManyNames
@@ -116,14 +115,14 @@ fn unify_bindings(
     ensures { MatchOk form.now room.old room.new ch result (meaning.unify_bindings (bindings_at form.now room.old ks) (bytes_at form.now room.old name) (tree_in form.now room.old node)) }
 {
     match get(form, room, ch, ks, store::atom_bytes(form, room, name)) {
-        Got::At(u) => {
+        Some(u) => {
             if sexp::equal_node(form, room, ch, u, node) {
                 Match::Matched(ks)
             } else {
                 Match::NoMatch
             }
         }
-        Got::Nothing => insert(ks, name, node),
+        None => insert(ks, name, node),
     }
 }
 
@@ -268,13 +267,13 @@ pub fn got_node<'a>(
     p: usize,
     s: usize,
     name: &'a [u8],
-) -> Got
+) -> Option<usize>
     requires { Ready form.now room.old ch p × Ready form.now room.old ch s }
     ensures { GotOk form.now room.old room.new ch result (meaning.got name.now (meaning.match_sexp (tree_in form.now room.old p) (tree_in form.now room.old s) [])) }
 {
     match matched_node(form, room, ch, p, s) {
         Match::Matched(ks) => get(form, room, ch, ks, name),
-        Match::NoMatch => Got::Nothing,
-        Match::TooManyNames => Got::Nothing,
+        Match::NoMatch => None,
+        Match::TooManyNames => None,
     }
 }

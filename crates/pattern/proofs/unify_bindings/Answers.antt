@@ -16,5 +16,5 @@ returns-then-equal_node c = search laws.unify_same
 pub returns-else-equal_node : goal.returns-else-equal_node
 returns-else-equal_node c = search laws.unify_other
 
-pub returns-in-Nothing : goal.returns-in-Nothing
-returns-in-Nothing c = search laws.unify_new
+pub returns-in-None : goal.returns-in-None
+returns-in-None c = search laws.unify_new
