@@ -1,4 +1,5 @@
 -- Rule 2: what each return needs. Assumes nothing.
+use Rattle.std.specs.Prelude.{Result, Ok, Err, Option as Got, Some, None}
 use Prim.Native.Nat.{ℕ, ◌+◌}
 use mathlib.Core.Path.{◌≡◌, refl, sym, ◌∙◌, ap}
 use mathlib.Core.List.{List, [], ◌∷◌}
@@ -26,7 +27,6 @@ use Rattle.store.proofs.Ready.{grown_none, grown_ready, grown_tree, look_pair, l
 use Rattle.sexp.specs.Tests.{is_byte_tree, is_nil}
 use Rattle.evaluator.specs.declared.Meter.{Meter}
 use Rattle.evaluator.specs.declared.Valued.{Valued}
-use Rattle.evaluator.specs.declared.Valued.TheVariants.{Value, Refused}
 use Rattle.evaluator.specs.Values.{state, stopped, Given, ValuedOk}
 use Rattle.run_state.specs.declared.Outcome.TheVariants.{Same, Stopped}
 use Rattle.run_state.specs.declared.Work.{Work}
@@ -80,15 +80,21 @@ module _ (r : Tree) (x : Spent) where
 abbrev pub fresh : Work → Meter
 fresh w = record { steps = 0; ch = w.ch }
 
-module _ (f s s₁ : List ℕ) (w q : Work) (n : ℕ) (v : Valued) (h : ValuedOk f s s₁ (fresh w) (evaluate (tree_at f s n) (tree_at f s 0) (state (fresh w))) v) (r : Ready f s w.ch n) where
-  pub value_stops : (e : Refusal) → v ≡ Refused e → q ≡ with_last w (Stopped e) → Did f s s₁ w (tree_at f s n) (worked_out (tree_at f s n) (spent_of w)) q
+module _ (f s s₁ : List ℕ) (w q : Work) (n : ℕ) (v : Result Valued Refusal) (h : ValuedOk f s s₁ (fresh w) (evaluate (tree_at f s n) (tree_at f s 0) (state (fresh w))) v) (r : Ready f s w.ch n) where
+  pub value_stops : (e : Refusal) → v ≡ Err e → q ≡ with_last w (Stopped e) → Did f s s₁ w (tree_at f s n) (worked_out (tree_at f s n) (spent_of w)) q
   unfolding ValuedOk
   value_stops e i j =
       let z : stopped (evaluate (tree_at f s n) (tree_at f s 0) (state (fresh w))) ≡ some e = rw i at h in
       let (t, y) = stop_of (evaluate (tree_at f s n) nil (state (fresh w))) e (ap (λ x. stopped (evaluate (tree_at f s n) x (state (fresh w)))) (sym r.held.nil_at) ∙ z) in
       did_stopped f s s₁ w q _ _ e _ j (worked_stop (tree_at f s n) (spent_of w) e t y)
 
-  module _ (y : ℕ) (m : Meter) (i : v ≡ Value y m) where
+  module _ (given_v : Valued) (i : v ≡ Ok given_v) where
+    abbrev y : ℕ
+    y = given_v.node
+
+    abbrev m : Meter
+    m = given_v.meter
+
     given : Given f s s₁ (fresh w) m y (evaluate (tree_at f s n) (tree_at f s 0) (state (fresh w)))
     unfolding ValuedOk
     given = rw i at h
@@ -96,7 +102,7 @@ module _ (f s s₁ : List ℕ) (w q : Work) (n : ℕ) (v : Valued) (h : ValuedOk
     pub value_ready : Ready f s₁ m.ch y
     value_ready = given.ready
 
-    pub value_quoted : (s₂ : List ℕ) (a : Made) → MadeOk f s₁ s₂ m.ch (5 + pair_cost) (quote (tree_at f s₁ y)) a → is_quote (tree_at f s n) ≡ false → q ≡ work_made w a
+    pub value_quoted : (s₂ : List ℕ) (a : Result Made Refusal) → MadeOk f s₁ s₂ m.ch (5 + pair_cost) (quote (tree_at f s₁ y)) a → is_quote (tree_at f s n) ≡ false → q ≡ work_made w a
         → Did f s s₂ w (tree_at f s n) (worked_out (tree_at f s n) (spent_of w)) q
     value_quoted s₂ a b o j =
         let z : evaluate (tree_at f s n) nil (state (fresh w)) ≡ done (tree_at f s₁ y) (state m) = rw r.held.nil_at at given.value in

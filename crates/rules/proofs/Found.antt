@@ -1,4 +1,5 @@
 -- What the matcher found, with the patterns as the definitions have them. Assumes nothing.
+use Rattle.std.specs.Prelude.{Result, Ok, Err, Option as Got, Some, None}
 use Prim.Native.Nat.{ℕ}
 use mathlib.Core.Path.{◌≡◌, sym, ap}
 use mathlib.Core.List.{List, []}
@@ -13,23 +14,21 @@ use Rattle.store.specs.Store.{Ready}
 use Rattle.pattern.specs.declared.Bindings.{Bindings}
 use Rattle.pattern.specs.declared.Match.{Match}
 use Rattle.pattern.specs.declared.Match.TheVariants.{Matched, NoMatch, TooManyNames}
-use Rattle.pattern.specs.declared.Got.{Got}
-use Rattle.pattern.specs.declared.Got.TheVariants.{At, Nothing}
 use Rattle.pattern.specs.Bound.{bindings_at, Bound, match_at, BoundIn, MatchOk, got_at, GotIn, GotOk}
 use Rattle.patterns.specs.Patterns.{Shows}
 
 -- ---- a name
 
-module _ (f s s' : List ℕ) (c : Charges) (g : Got) (o : Option Tree) (h : GotOk f s s' c g o) where
-  pub found_tree : (n : ℕ) → g ≡ At n → o ≡ some (tree_at f s' n)
+module _ (f s s' : List ℕ) (c : Charges) (g : Got ℕ) (o : Option Tree) (h : GotOk f s s' c g o) where
+  pub found_tree : (n : ℕ) → g ≡ Some n → o ≡ some (tree_at f s' n)
   unfolding got_at
   found_tree n e = let z : some (tree_at f s' n) ≡ o = rw e at h.answer in sym z
 
-  pub found_ready : (n : ℕ) → g ≡ At n → Ready f s' c n
+  pub found_ready : (n : ℕ) → g ≡ Some n → Ready f s' c n
   unfolding GotIn
   found_ready n e = rw e at h.found
 
-  pub found_none : g ≡ Nothing → o ≡ none
+  pub found_none : g ≡ None → o ≡ none
   unfolding got_at
   found_none e = let z : none ≡ o = rw e at h.answer in sym z
 

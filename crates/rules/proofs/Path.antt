@@ -1,4 +1,6 @@
 -- Rule 6: what each call and each return needs. Assumes nothing.
+use Rattle.refusals.specs.declared.Refusal.{Refusal}
+use Rattle.std.specs.Prelude.{Result, Ok, Err, Option as Got, Some, None}
 use Prim.Native.Nat.{ℕ, ◌-◌, ◌≤◌, ◌<◌}
 use native.Mathlib.Omega.{arith}
 use mathlib.Core.Path.{◌≡◌, refl, sym, ◌∙◌, ap}
@@ -33,8 +35,6 @@ use Rattle.paths.proofs.ShortestLaws.{held_len}
 use Rattle.pattern.specs.declared.Bindings.{Bindings}
 use Rattle.pattern.specs.declared.Match.{Match}
 use Rattle.pattern.specs.declared.Match.TheVariants.{Matched, NoMatch, TooManyNames}
-use Rattle.pattern.specs.declared.Got.{Got}
-use Rattle.pattern.specs.declared.Got.TheVariants.{At, Nothing}
 use Rattle.pattern.specs.Bound.{bindings_at, Named, MatchOk, got_at, GotIn, GotOk}
 use Rattle.patterns.specs.declared.Patterns.{Patterns}
 use Rattle.patterns.specs.Patterns.{Patterned}
@@ -88,7 +88,7 @@ module _ (f s : List ℕ) (w r : Work) (n a k : ℕ) (z : List ℕ) (l : Lengthe
       → Did f s s w (tree_at f s n) (path_to (bytes_of (compose_paths (node_path_index (bytes_at f s a)) k)) (Rules·misread (bytes_at f s a)) (spent_of w)) r
   path_long o i = did_stopped f s s w r _ _ PathLong (spent_of w) i (long_stops (bytes_at f s a) k l lengthened (spent_of w) o)
 
-  pub path_made : (s₁ : List ℕ) (m : Made) (v : Work) → MadeOk f s s₁ w.ch (atom_cost (last_bytes l)) (atom (last_bytes l)) m → l.path.len ≤ 64 → v ≡ marked_work w l.misread → r ≡ work_made v m
+  pub path_made : (s₁ : List ℕ) (m : Result Made Refusal) (v : Work) → MadeOk f s s₁ w.ch (atom_cost (last_bytes l)) (atom (last_bytes l)) m → l.path.len ≤ 64 → v ≡ marked_work w l.misread → r ≡ work_made v m
       → Did f s s₁ w (tree_at f s n) (path_to (bytes_of (compose_paths (node_path_index (bytes_at f s a)) k)) (Rules·misread (bytes_at f s a)) (spent_of w)) r
   path_made s₁ m v b o ev er =
       let y : last_bytes l ≡ bytes_of (compose_paths (node_path_index (bytes_at f s a)) k) = last_shown (bytes_at f s a) k l lengthened o in
@@ -108,12 +108,12 @@ path_few l o = simp length-take (omega arith)
 
 -- ---- what the name is bound to
 
-module _ (f s : List ℕ) (w r : Work) (n k : ℕ) (g : Got) (h : LongerAsks f s w.ch n g) where
-  pub longer_none : g ≡ Nothing → r ≡ with_last w Same → Did f s s w (tree_at f s n) (longer (tree_at f s n) (got_at f s g) k (spent_of w)) r
+module _ (f s : List ℕ) (w r : Work) (n k : ℕ) (g : Got ℕ) (h : LongerAsks f s w.ch n g) where
+  pub longer_none : g ≡ None → r ≡ with_last w Same → Did f s s w (tree_at f s n) (longer (tree_at f s n) (got_at f s g) k (spent_of w)) r
   unfolding longer got_at give
   longer_none e i = did_same f s s w r _ _ i (grown_none f s w.ch h.ready.held) (rw e)
 
-  module _ (a : ℕ) (e : g ≡ At a) where
+  module _ (a : ℕ) (e : g ≡ Some a) where
     pub longer_ready : Ready f s w.ch a
     unfolding GotIn
     longer_ready = rw e at h.found
@@ -144,7 +144,7 @@ module _ (f s : List ℕ) (w r : Work) (n k : ℕ) (g : Got) (h : LongerAsks f s
 -- ---- the two patterns
 
 -- where the pattern for o bound a name in n, no path is what n stands for
-module _ (f s s₁ : List ℕ) (c : Charges) (n o : ℕ) (g : Got) (gr : Grown f s s₁ c c) (found : GotIn f s₁ c g) (is : got_at f s₁ g ≡ meaning.got atom_name (meaning.match_sexp (atom_pattern o) (tree_at f s n) [])) (r : Ready f s c n) where
+module _ (f s s₁ : List ℕ) (c : Charges) (n o : ℕ) (g : Got ℕ) (gr : Grown f s s₁ c c) (found : GotIn f s₁ c g) (is : got_at f s₁ g ≡ meaning.got atom_name (meaning.match_sexp (atom_pattern o) (tree_at f s n) [])) (r : Ready f s c n) where
   asks : LongerAsks f s₁ c n g
   asks = record {
     ready = grown_ready gr r;
@@ -152,7 +152,7 @@ module _ (f s s₁ : List ℕ) (c : Charges) (n o : ℕ) (g : Got) (gr : Grown f
     other = λ t bs e. rw (grown_tree gr r) (path_differs o (tree_at f s n) t bs (sym is ∙ e));
   }
 
-module _ (f s s₁ : List ℕ) (w : Work) (n k : ℕ) (p : Patterns) (g : Got) (h : GotOk f s s₁ w.ch g (meaning.got atom_name (meaning.match_sexp (tree_at f s p.rest_atom) (tree_at f s n) []))) (ready : Ready f s w.ch n) (patterned : Patterned f s w.ch p) where
+module _ (f s s₁ : List ℕ) (w : Work) (n k : ℕ) (p : Patterns) (g : Got ℕ) (h : GotOk f s s₁ w.ch g (meaning.got atom_name (meaning.match_sexp (tree_at f s p.rest_atom) (tree_at f s n) []))) (ready : Ready f s w.ch n) (patterned : Patterned f s w.ch p) where
   rest_is : got_at f s₁ g ≡ meaning.got atom_name (meaning.match_sexp (atom_pattern 6) (tree_at f s n) [])
   rest_is = h.answer ∙ ap (meaning.got atom_name) (at_pattern n patterned.rest_atom)
 
@@ -167,7 +167,7 @@ module _ (f s s₁ : List ℕ) (w : Work) (n : ℕ) (p : Patterns) (m : Match) (
   first_is : meaning.match_sexp (tree_at f s p.first_atom) (tree_at f s n) [] ≡ meaning.match_sexp (atom_pattern 5) (tree_at f s n) []
   first_is = at_pattern n patterned.first_atom
 
-  module _ (ks : Bindings) (e : m ≡ Matched ks) (g : Got) (i : GotOk f s₁ s₁ w.ch g (meaning.get atom_name (bindings_at f s₁ ks))) where
+  module _ (ks : Bindings) (e : m ≡ Matched ks) (g : Got ℕ) (i : GotOk f s₁ s₁ w.ch g (meaning.get atom_name (bindings_at f s₁ ks))) where
     bound : meaning.match_sexp (atom_pattern 5) (tree_at f s n) [] ≡ meaning.matched (bindings_at f s₁ ks)
     bound = sym first_is ∙ match_bindings f s s₁ w.ch m _ h ks e
 

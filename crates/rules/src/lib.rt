@@ -15,8 +15,8 @@ ghost use Rattle.patterns.specs.Patterns.{Patterned};
 ghost use Rattle.run_state.specs.Work.{spent_of, Did};
 ghost use Rattle.rules.specs.Rule.{both_of, AppliedOk, PathAsks, LongerAsks};
 
-use evaluator::{Meter, Valued};
-use pattern::{Got, Match};
+use evaluator::Meter;
+use pattern::Match;
 use patterns::Patterns;
 use refusals::Refusal;
 use run_state::{Outcome, Work};
@@ -28,12 +28,11 @@ pub fn cons_optimizer(form: &[u8], room: &mut [u8], p: Patterns, w: Work, n: usi
     requires { Ready form.now room.old w.ch n × Patterned form.now room.old w.ch p }
     ensures { Did form.now room.old room.new w (tree_in form.now room.old n) (give (cons_optimizer (tree_in form.now room.old n)) (spent_of w)) result }
 {
-    let ch = w.ch;
-    match pattern::got_node(form, room, ch, p.first_cons, n, b"first") {
-        Got::At(a) => run_state::with(w, Outcome::Changed(a)),
-        Got::Nothing => match pattern::got_node(form, room, ch, p.rest_cons, n, b"rest") {
-            Got::At(b) => run_state::with(w, Outcome::Changed(b)),
-            Got::Nothing => run_state::with(w, Outcome::Same),
+    match pattern::got_node(form, room, w.ch, p.first_cons, n, b"first") {
+        Some(a) => run_state::with(w, Outcome::Changed(a)),
+        None => match pattern::got_node(form, room, w.ch, p.rest_cons, n, b"rest") {
+            Some(b) => run_state::with(w, Outcome::Changed(b)),
+            None => run_state::with(w, Outcome::Same),
         },
     }
 }
@@ -56,14 +55,10 @@ fn quoted_value(form: &[u8], room: &mut [u8], w: Work, n: usize) -> Work
     requires { Ready form.now room.old w.ch n × (is_quote (tree_at form.now room.old n) ≡ false) }
     ensures { Did form.now room.old room.new w (tree_in form.now room.old n) (worked_out (tree_in form.now room.old n) (spent_of w)) result }
 {
-    let ch = w.ch;
-    let m = Meter { steps: 0, ch: ch };
+    let m = Meter { steps: 0, ch: w.ch };
     match evaluator::eval_node(form, room, m, n, 0) {
-        Valued::Refused(e) => run_state::with(w, Outcome::Stopped(e)),
-        Valued::Value(v, t) => {
-            let c = t.ch;
-            run_state::put(w, sexp::quote_node(form, room, c, v))
-        }
+        Ok(value) => run_state::put(w, sexp::quote_node(form, room, value.meter.ch, value.node)),
+        Err(e) => run_state::with(w, Outcome::Stopped(e)),
     }
 }
 
@@ -71,14 +66,13 @@ pub fn constant_optimizer(form: &[u8], room: &mut [u8], w: Work, n: usize) -> Wo
     requires { Ready form.now room.old w.ch n }
     ensures { Did form.now room.old room.new w (tree_in form.now room.old n) (constant_optimizer (tree_in form.now room.old n) (spent_of w)) result }
 {
-    let ch = w.ch;
     if is_quote_node(form, room, n) {
         return run_state::with(w, Outcome::Same);
     }
     if sexp::is_nil_node(form, room, n) {
         return run_state::with(w, Outcome::Same);
     }
-    if seems::seems_constant(form, room, ch, n) {
+    if seems::seems_constant(form, room, w.ch, n) {
         quoted_value(form, room, w, n)
     } else {
         run_state::with(w, Outcome::Same)
@@ -87,26 +81,27 @@ pub fn constant_optimizer(form: &[u8], room: &mut [u8], w: Work, n: usize) -> Wo
 
 // ---- 3. `cons_q_a_optimizer`: (a (q . S) 1) gives S
 
+// The S and the ARGS of (a (q . S) ARGS).
 #[derive(Clone, Copy)]
-pub enum Applied {
-    Call(usize, usize),
-    Other,
+pub struct Applied {
+    pub body: usize,
+    pub args: usize,
 }
 
-fn both_got(s: Got, a: Got) -> Applied
+fn both_got(s: Option<usize>, a: Option<usize>) -> Option<Applied>
     ensures { result ≡ both_of s a }
 {
-    match s {
-        Got::At(x) => match a {
-            Got::At(y) => Applied::Call(x, y),
-            Got::Nothing => Applied::Other,
-        },
-        Got::Nothing => Applied::Other,
-    }
+    Some(Applied { body: s?, args: a? })
 }
 
-// The S and the ARGS of (a (q . S) ARGS).
-pub fn applied_of(form: &[u8], room: &mut [u8], p: Patterns, ch: Charges, n: usize) -> Applied
+// What n is applied to, if it is (a (q . S) ARGS).
+pub fn applied_of(
+    form: &[u8],
+    room: &mut [u8],
+    p: Patterns,
+    ch: Charges,
+    n: usize,
+) -> Option<Applied>
     requires { Ready form.now room.old ch n × Patterned form.now room.old ch p }
     ensures { AppliedOk form.now room.old room.new ch result (applied_of (tree_in form.now room.old n)) }
 {
@@ -116,8 +111,8 @@ pub fn applied_of(form: &[u8], room: &mut [u8], p: Patterns, ch: Charges, n: usi
             let a = pattern::get(form, room, ch, ks, b"args");
             both_got(s, a)
         }
-        Match::NoMatch => Applied::Other,
-        Match::TooManyNames => Applied::Other,
+        Match::NoMatch => None,
+        Match::TooManyNames => None,
     }
 }
 
@@ -125,16 +120,15 @@ pub fn cons_q_a_optimizer(form: &[u8], room: &mut [u8], p: Patterns, w: Work, n:
     requires { Ready form.now room.old w.ch n × Patterned form.now room.old w.ch p }
     ensures { Did form.now room.old room.new w (tree_in form.now room.old n) (give (cons_q_a_optimizer (tree_in form.now room.old n)) (spent_of w)) result }
 {
-    let ch = w.ch;
-    match applied_of(form, room, p, ch, n) {
-        Applied::Call(s, a) => {
-            if sexp::is_byte_node(form, room, a, 1) {
-                run_state::with(w, Outcome::Changed(s))
+    match applied_of(form, room, p, w.ch, n) {
+        Some(applied) => {
+            if sexp::is_byte_node(form, room, applied.args, 1) {
+                run_state::with(w, Outcome::Changed(applied.body))
             } else {
                 run_state::with(w, Outcome::Same)
             }
         }
-        Applied::Other => run_state::with(w, Outcome::Same),
+        None => run_state::with(w, Outcome::Same),
     }
 }
 
@@ -146,26 +140,24 @@ fn path_node(form: &[u8], room: &mut [u8], w: Work, n: usize, a: usize, q: u8) -
     ensures { Did form.now room.old room.new w (tree_in form.now room.old n) (path_to (bytes_of (compose_paths (node_path_index (bytes_at form.now room.old a)) q)) (misread (bytes_at form.now room.old a)) (spent_of w)) result }
 {
     let l = paths::lengthen(store::atom_bytes(form, room, a), q);
-    let p = l.path;
-    let len = p.len;
+    let len = l.path.len;
     if 64 < len {
         return run_state::with(w, Outcome::Stopped(Refusal::PathLong));
     }
-    let bytes = p.bytes;
+    let bytes = l.path.bytes;
     let from = 65 - len;
-    let ch = w.ch;
-    let m = store::atom_node(form, room, ch, &bytes[from..]);
+    let m = store::atom_node(form, room, w.ch, &bytes[from..]);
     run_state::put(run_state::marked(w, l.misread), m)
 }
 
 // What became of the name `atom`: only an atom is a path.
-fn longer_node(form: &[u8], room: &mut [u8], w: Work, n: usize, g: Got, q: u8) -> Work
+fn longer_node(form: &[u8], room: &mut [u8], w: Work, n: usize, g: Option<usize>, q: u8) -> Work
     requires { LongerAsks form.now room.old w.ch n g × (1 ≤ q) }
     ensures { Did form.now room.old room.new w (tree_in form.now room.old n) (longer (tree_in form.now room.old n) (got_at form.now room.old g) q (spent_of w)) result }
 {
     match g {
-        Got::Nothing => run_state::with(w, Outcome::Same),
-        Got::At(a) => match store::look_node(room, a) {
+        None => run_state::with(w, Outcome::Same),
+        Some(a) => match store::look_node(room, a) {
             Cell::Pair(_, _) => run_state::with(w, Outcome::Same),
             Cell::Atom => path_node(form, room, w, n, a, q),
         },
@@ -177,8 +169,7 @@ fn rest_path(form: &[u8], room: &mut [u8], p: Patterns, w: Work, n: usize) -> Wo
     requires { Ready form.now room.old w.ch n × Patterned form.now room.old w.ch p }
     ensures { Did form.now room.old room.new w (tree_in form.now room.old n) (longer (tree_in form.now room.old n) (got atom_name (match_sexp (atom_pattern 6) (tree_in form.now room.old n) [])) 3 (spent_of w)) result }
 {
-    let ch = w.ch;
-    let g = pattern::got_node(form, room, ch, p.rest_atom, n, b"atom");
+    let g = pattern::got_node(form, room, w.ch, p.rest_atom, n, b"atom");
     longer_node(form, room, w, n, g, 3)
 }
 
@@ -186,10 +177,9 @@ pub fn path_optimizer(form: &[u8], room: &mut [u8], p: Patterns, w: Work, n: usi
     requires { Ready form.now room.old w.ch n × Patterned form.now room.old w.ch p }
     ensures { Did form.now room.old room.new w (tree_in form.now room.old n) (path_optimizer (tree_in form.now room.old n) (spent_of w)) result }
 {
-    let ch = w.ch;
-    match pattern::matched_node(form, room, ch, p.first_atom, n) {
+    match pattern::matched_node(form, room, w.ch, p.first_atom, n) {
         Match::Matched(ks) => {
-            let g = pattern::get(form, room, ch, ks, b"atom");
+            let g = pattern::get(form, room, w.ch, ks, b"atom");
             longer_node(form, room, w, n, g, 2)
         }
         Match::NoMatch => rest_path(form, room, p, w, n),
@@ -203,8 +193,7 @@ pub fn quote_null_optimizer(form: &[u8], room: &mut [u8], p: Patterns, w: Work, 
     requires { Ready form.now room.old w.ch n × Patterned form.now room.old w.ch p }
     ensures { Did form.now room.old room.new w (tree_in form.now room.old n) (give (quote_null_optimizer (tree_in form.now room.old n)) (spent_of w)) result }
 {
-    let ch = w.ch;
-    match pattern::matched_node(form, room, ch, p.quote_nil, n) {
+    match pattern::matched_node(form, room, w.ch, p.quote_nil, n) {
         Match::Matched(_) => run_state::with(w, Outcome::Changed(0)),
         Match::NoMatch => run_state::with(w, Outcome::Same),
         Match::TooManyNames => run_state::with(w, Outcome::Same),
@@ -215,8 +204,7 @@ pub fn apply_null_optimizer(form: &[u8], room: &mut [u8], p: Patterns, w: Work, 
     requires { Ready form.now room.old w.ch n × Patterned form.now room.old w.ch p }
     ensures { Did form.now room.old room.new w (tree_in form.now room.old n) (give (apply_null_optimizer (tree_in form.now room.old n)) (spent_of w)) result }
 {
-    let ch = w.ch;
-    match pattern::matched_node(form, room, ch, p.apply_nil, n) {
+    match pattern::matched_node(form, room, w.ch, p.apply_nil, n) {
         Match::Matched(_) => run_state::with(w, Outcome::Changed(0)),
         Match::NoMatch => run_state::with(w, Outcome::Same),
         Match::TooManyNames => run_state::with(w, Outcome::Same),

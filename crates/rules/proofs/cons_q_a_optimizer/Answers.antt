@@ -11,5 +11,5 @@ returns-then-is_byte_node c = search simple.args_yes
 pub returns-else-is_byte_node : goal.returns-else-is_byte_node
 returns-else-is_byte_node c = search simple.args_no
 
-pub returns-in-Other : goal.returns-in-Other
-returns-in-Other c = search simple.not_call
+pub returns-in-None : goal.returns-in-None
+returns-in-None c = search simple.not_call

@@ -9,8 +9,8 @@ look_node-requires c = search path.longer_room
 pub path_node-requires : goal.path_node-requires
 path_node-requires c = (search path.longer_asks, search path.longer_named, search rules)
 
-pub returns-in-Nothing : goal.returns-in-Nothing
-returns-in-Nothing c = search path.longer_none
+pub returns-in-None : goal.returns-in-None
+returns-in-None c = search path.longer_none
 
 pub returns-in-Pair : goal.returns-in-Pair
 returns-in-Pair c = search path.longer_pair

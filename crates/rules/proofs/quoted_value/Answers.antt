@@ -10,8 +10,8 @@ eval_node-requires c = (search rules, search nil_ready)
 pub quote_node-requires : goal.quote_node-requires
 quote_node-requires c = search constant.value_ready
 
-pub returns-in-Refused : goal.returns-in-Refused
-returns-in-Refused c = search constant.value_stops
+pub returns-in-Err : goal.returns-in-Err
+returns-in-Err c = search constant.value_stops
 
-pub returns-in-Value : goal.returns-in-Value
-returns-in-Value c = search constant.value_quoted
+pub returns-in-Ok : goal.returns-in-Ok
+returns-in-Ok c = search constant.value_quoted
