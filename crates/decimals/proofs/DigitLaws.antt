@@ -1,14 +1,16 @@
 -- Digits one at a time: the test, a power of ten, and a chunk's number. Assumes nothing.
 use Prim.Native.Nat.{ℕ, ◌+◌, ◌-◌, ◌*◌, ◌^◌, ◌≤◌, ◌<◌}
 use mathlib.Core.Path.{◌≡◌, refl, sym, ◌∙◌, ap}
-use mathlib.Core.List.{List, ◌∷◌}
-use mathlib.Core.Bool.{Bool, true, false, ◌&&◌, and-false}
+use mathlib.Core.List.{List, [], ◌∷◌}
+use mathlib.Core.Bool.{Bool, true, false, ◌&&◌, not}
 use native.Mathlib.Nat.{pow-succ', pow-le-pow_right}
 use native.Mathlib.Numerals.{add-one}
 use native.Mathlib.Omega.{arith}
-use borrow.Author.Tests.{le-leb, lt-leb}
-use lib.Dec.{leb}
-use lib.ListN.{length, drop, get_or, drop_of_length-le}
+use borrow.Author.Tests.{eqb-true}
+use lib.Dec.{leb, eqb}
+use Rattle.std.specs.List.{list_all}
+use Rattle.std.specs.Char.{is_ascii_digit}
+use lib.ListN.{length, drop, get_or}
 use lib.Seq.{drop-cons}
 use mir.Syntax.{w64}
 use mir.Val.{Fits}
@@ -32,58 +34,20 @@ pub digits_at : (w : List ℕ) (i : ℕ) → i < length w → digits (drop i w) 
     → (0x30 ≤ get_or w i 0) × ((get_or w i 0 ≤ 0x39) × (digits (drop (i + 1) w) ≡ true))
 digits_at w i h d = digits_inv (get_or w i 0) (drop (i + 1) w) (rw (next w i h) at d)
 
-digits_low : (c : ℕ) (cs : List ℕ) → c < 0x30 → digits (c ∷ cs) ≡ false
+pub digits_all : (w : List ℕ) → list_all is_ascii_digit w ≡ digits w
 unfolding digits
-digits_low c cs h = rw (lt-leb 0x30 c h, digits)
+digits_all [] = refl
+digits_all (c ∷ cs) = on_bool (leb 0x30 c && leb c 0x39) (λ e. rw (e, digits) (digits_all cs)) (λ e. rw (e, digits))
 
-digits_high : (c : ℕ) (cs : List ℕ) → 0x39 < c → digits (c ∷ cs) ≡ false
-unfolding digits
-digits_high c cs h = rw (lt-leb c 0x39 h, and-false (leb 0x30 c), digits)
-
-digits_one : (c : ℕ) (cs : List ℕ) → 0x30 ≤ c → c ≤ 0x39 → digits (c ∷ cs) ≡ digits cs
-unfolding digits
-digits_one c cs h k = rw (le-leb 0x30 c h, le-leb c 0x39 k, digits)
-
-some_is : (w : List ℕ) (at : ℕ) → at < length w → some_digits (drop at w) ≡ digits (drop at w)
+pub some_none : (w : List ℕ) {b : Bool} → b ≡ eqb (length w) 0 → b ≡ true → not b ≡ some_digits w
 unfolding some_digits
-some_is w at h = rw (next w at h)
+some_none [] e h = ap not e
+some_none (c ∷ cs) e h = let z : length (c ∷ cs) ≡ 0 = eqb-true _ _ (sym e ∙ h) in absurd (omega arith)
 
-digits_end : (w : List ℕ) (i : ℕ) → length w ≤ i → digits (drop i w) ≡ true
-unfolding digits
-digits_end w i h = ap digits (drop_of_length-le w h)
-
-pub some_none : (w : List ℕ) (at : ℕ) → length w ≤ at → false ≡ some_digits (drop at w)
+pub some_all : (w : List ℕ) {b r : Bool} → b ≡ eqb (length w) 0 → b ≡ false → r ≡ list_all is_ascii_digit w → r ≡ some_digits w
 unfolding some_digits
-some_none w at h = sym (ap some_digits (drop_of_length-le w h))
-
--- from at to i there are digits only
-pub record Tested (w : List ℕ) (at i : ℕ) : Type 0 where
-  pub some : at < length w
-  pub within : i ≤ length w
-  pub same : digits (drop i w) ≡ digits (drop at w)
-
-pub test_starts : {w : List ℕ} {at : ℕ} → at < length w → Tested w at at
-test_starts h = record { some = h; within = omega arith; same = refl }
-
-module _ {w : List ℕ} {at i : ℕ} (d : Tested w at i) where
-  tested : {b : Bool} → digits (drop i w) ≡ b → b ≡ some_digits (drop at w)
-  tested e = sym (some_is w at d.some ∙ sym d.same ∙ e)
-
-  pub test_low : i < length w → get_or w i 0 < 0x30 → false ≡ some_digits (drop at w)
-  test_low h l = tested (ap digits (next w i h) ∙ digits_low (get_or w i 0) (drop (i + 1) w) l)
-
-  pub test_high : i < length w → 0x39 < get_or w i 0 → false ≡ some_digits (drop at w)
-  test_high h l = tested (ap digits (next w i h) ∙ digits_high (get_or w i 0) (drop (i + 1) w) l)
-
-  pub test_turn : i < length w → 0x30 ≤ get_or w i 0 → get_or w i 0 ≤ 0x39 → Tested w at (i + 1)
-  test_turn h k l = record {
-    some = d.some;
-    within = omega arith;
-    same = sym (ap digits (next w i h) ∙ digits_one (get_or w i 0) (drop (i + 1) w) k l) ∙ d.same;
-  }
-
-  pub test_ends : length w ≤ i → true ≡ some_digits (drop at w)
-  test_ends h = tested (digits_end w i h)
+some_all [] e h l = not_false (sym h ∙ e)
+some_all (c ∷ cs) e h l = l ∙ digits_all (c ∷ cs)
 
 -- ---- powers of ten
 
@@ -93,27 +57,6 @@ ten_suc i = rw (add-one i) (pow-succ' 10 i)
 pub ten_most : (k : ℕ) → k ≤ 16 → 10 ^ k ≤ 10 ^ 16
 ten_most k h = pow-le-pow_right (omega arith) h
 
-pub record Powered (k p i : ℕ) : Type 0 where
-  pub within : i ≤ k
-  pub done : p ≡ 10 ^ i
-
-pub power_starts : {k : ℕ} → Powered k 1 0
-power_starts = record { within = omega arith; done = refl }
-
-module _ {k p i : ℕ} (d : Powered k p i) where
-  pub power_fits : i < k → k ≤ 16 → Fits w64 (p * 10)
-  power_fits h l =
-      let e = d.done in
-      let s = ten_suc i in
-      let t : 10 ^ (i + 1) ≤ 10 ^ 16 = ten_most (i + 1) (omega arith) in
-      record { fits = omega arith }
-
-  pub power_turn : i < k → Powered k (p * 10) (i + 1)
-  power_turn h = let e = d.done in let s = ten_suc i in record { within = omega arith; done = omega arith }
-
-  pub power_ends : k ≤ i → p ≡ 10 ^ k
-  power_ends h = let z : i ≡ k = let w = d.within in omega arith in d.done ∙ ap (10 ^◌) z
-
 -- ---- a chunk
 
 pub record Chunked (w : List ℕ) (at end n i : ℕ) : Type 0 where
@@ -121,14 +64,6 @@ pub record Chunked (w : List ℕ) (at end n i : ℕ) : Type 0 where
   pub high : i ≤ end
   pub some : digits (drop i w) ≡ true
   pub done : Chunk w at i n
-
-chunk_none : (w : List ℕ) (at : ℕ) → Chunk w at at 0
-chunk_none w at =
-    let z : at - at ≡ 0 = omega arith in
-    record { small = rw z (omega arith); reads = λ v. ap (λ x. value_from x (drop at w)) (rw z (omega arith)) }
-
-pub chunk_starts : {w : List ℕ} {at end : ℕ} → digits (drop at w) ≡ true → at ≤ end → Chunked w at end 0 at
-chunk_starts {w} {at} {end} d h = record { low = omega arith; high = h; some = d; done = chunk_none w at }
 
 value_next : (n c : ℕ) (cs : List ℕ) → value_from n (c ∷ cs) ≡ value_from (n * 10 + (c - 0x30)) cs
 unfolding value_from
@@ -147,6 +82,10 @@ module _ {w : List ℕ} {at end n i : ℕ} (d : Chunked w at end n i) where
 
   pub chunk_high : i < end → end ≤ length w → get_or w i 0 ≤ 0x39
   chunk_high h l = let (a, (b, e)) = digits_at w i (omega arith) d.some in b
+
+  -- the digit's value, as the code reads it
+  pub chunk_digit : {x : ℕ} → x ≡ get_or w i 0 - 0x30 → i < end → end ≤ length w → x < 10
+  chunk_digit e h l = let a = chunk_high h l in omega arith
 
   small_next : {x : ℕ} → i < end → x < 10 → n * 10 + x < 10 ^ (i + 1 - at)
   small_next h l = let s = d.done.small in let e = later_ten at i d.low in omega arith
@@ -177,6 +116,3 @@ module _ {w : List ℕ} {at end n i : ℕ} (d : Chunked w at end n i) where
               ∙ d.done.reads v;
         };
       }
-
-  pub chunk_ends : end ≤ i → Chunk w at end n
-  chunk_ends h = let z : i ≡ end = let k = d.high in omega arith in rw z at d.done

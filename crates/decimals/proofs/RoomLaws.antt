@@ -1,18 +1,19 @@
 -- The number at the room's end: times and plus, bytes before it, one less, every bit turned. Assumes nothing.
 use Prim.Native.Nat.{ℕ, zero, suc, ◌+◌, ◌-◌, ◌*◌, ◌/◌, ◌%◌, ◌^◌, ◌≤◌, ◌<◌}
 use mathlib.Core.Path.{◌≡◌, refl, sym, ◌∙◌, ap, ap₂}
-use mathlib.Core.List.{List, ◌∷◌}
+use mathlib.Core.List.{List, [], ◌∷◌}
 use native.Mathlib.Nat.{pow-succ', pow-le-pow_right, one-le-pow}
 use native.Mathlib.Omega.{arith}
+use borrow.Author.Tests.{eqb-true, eqb-false}
+use lib.Dec.{eqb}
 use lib.Arith.{digits_lt}
 use lib.Pow.{pow-add}
-use lib.ListN.{length, drop, get_or, set, length-set}
-use lib.Seq.{drop-cons, drop-length, drop-set-lt, get_or-set_same, get_or-set_other}
-use mir.Syntax.{w64}
-use mir.Val.{Fits}
+use lib.ListN.{length, drop, get_or, set, length-set, length-drop}
+use lib.Seq.{drop-cons, drop-set-lt, get_or-set_same, get_or-set_other, get_or-drop}
+use Rattle.meaning.proofs.Tests.{on_bool}
 use Rattle.meaning.specs.Number.{number}
 use Rattle.notation.specs.Words.{turned_over}
-use Rattle.paths.proofs.NumberLaws.{on_lt, from_at, from_set, from_end}
+use Rattle.paths.proofs.NumberLaws.{Bytes, on_lt, from_at, from_set, from_end}
 use Rattle.decimals.specs.Places.{Holds, Times, Before, Holding, Less, Past, Ends}
 
 -- ---- powers
@@ -63,17 +64,25 @@ same_less {s₀} {s} {i} d h v = record {
 
 -- ---- times_plus
 
+-- a byte is set
+bytes_set : (s : List ℕ) (i v : ℕ) → Bytes s → i < length s → v < 256 → Bytes (set s i v)
+bytes_set s i v b h l k =
+    on_bool (eqb k i)
+    (λ e. let f : k ≡ i = eqb-true k i e in rw (f, get_or-set_same s i v 0 h) (record { fits = l }))
+    (λ e. rw (get_or-set_other s i k v 0 (eqb-false k i e)) (b k))
+
 pub record Timing (m c₀ : ℕ) (s₀ s : List ℕ) (at carry i : ℕ) : Type 0 where
   pub kept : Same s₀ s i
+  pub bytes : Bytes s
   pub low : at ≤ i
   pub small : carry < m
   pub done : number (drop i s) + carry * 256 ^ (length s₀ - i) ≡ m * number (drop i s₀) + c₀
 
-pub timing_starts : {m c₀ : ℕ} {s : List ℕ} {at : ℕ} → at ≤ length s → c₀ < m → Timing m c₀ s s at c₀ (length s)
-timing_starts {m} {c₀} {s} {at} h l =
+pub timing_starts : {m c₀ : ℕ} {s : List ℕ} {at : ℕ} → Bytes s → at ≤ length s → c₀ < m → Timing m c₀ s s at c₀ (length s)
+timing_starts {m} {c₀} {s} {at} b h l =
     let z : length s - length s ≡ 0 = omega arith in
     let e : number (drop (length s) s) ≡ 0 = from_end s (length s) refl in
-    record { kept = same_all s; low = h; small = l; done = rw (z, e) (omega arith) }
+    record { kept = same_all s; bytes = b; low = h; small = l; done = rw (z, e) (omega arith) }
 
 byte_times : (b m c : ℕ) → b < 256 → c < m → b * m + c < 256 * m
 byte_times b m c h l = digits_lt h l
@@ -82,32 +91,23 @@ carry_up : (p v b m c c₀ x s t : ℕ) → v + x * 256 ≡ b * m + c → s + c 
 carry_up p v b m c c₀ x s t e f = let g : (v + x * 256) * p ≡ (b * m + c) * p = ap (◌* p) e in omega arith
 
 module _ {m c₀ : ℕ} {s₀ s : List ℕ} {at carry i : ℕ} (d : Timing m c₀ s₀ s at carry i) where
-  pub timing_times : {b : ℕ} → b < 256 → m ≤ 10 ^ 16 → Fits w64 (b * m)
-  timing_times {b} h l = let k = byte_times b m carry h d.small in record { fits = omega arith }
-
-  pub timing_plus : {b : ℕ} → b < 256 → m ≤ 10 ^ 16 → Fits w64 (b * m + carry)
-  timing_plus {b} h l = let k = byte_times b m carry h d.small in record { fits = omega arith }
-
-  pub timing_turn : {b : ℕ} → b ≡ get_or s (i - 1) 0 → b < 256 → at < i
+  pub timing_turn : {b : ℕ} → b ≡ get_or s (i - 1) 0 → at < i
       → Timing m c₀ s₀ (set s (i - 1) ((b * m + carry) % 256)) at ((b * m + carry) / 256) (i - 1)
-  timing_turn {b} e k h =
+  timing_turn {b} e h =
       let w = d.kept.within in
       let l = d.kept.long in
       let o : 0 < i = omega arith in
       let f : b ≡ get_or s₀ (i - 1) 0 = e ∙ d.kept.same (i - 1) (omega arith) in
+      let k : b < 256 = rw e (d.bytes (i - 1)).fits in
       let small = byte_times b m carry k d.small in
       record {
         kept = same_less d.kept o _;
+        bytes = bytes_set s (i - 1) _ d.bytes (omega arith) (omega arith);
         low = omega arith;
         small = omega arith;
         done = rw (back_set s i o (omega arith) ((b * m + carry) % 256), back_at s₀ i o w, back_power (length s₀) i o w, l, ← f)
             (carry_up (256 ^ (length s₀ - i)) ((b * m + carry) % 256) b m carry c₀ ((b * m + carry) / 256) (number (drop i s)) (number (drop i s₀)) (omega arith) d.done);
       }
-
-  pub timing_ends : i ≤ at → Times m c₀ s₀ s at carry
-  timing_ends h =
-      let z : i ≡ at = let k = d.low in omega arith in
-      record { long = d.kept.long; small = d.small; value = rw z at d.done }
 
 -- ---- before
 
@@ -117,11 +117,6 @@ pub record Putting (n : ℕ) (s₀ s : List ℕ) (at left i : ℕ) : Type 0 wher
   pub some : left * 256 ^ (at - i) ≤ n
   pub least : i < at → 256 ^ (at - (i + 1)) ≤ n
   pub done : number (drop i s) + left * 256 ^ (length s₀ - i) ≡ n * 256 ^ (length s₀ - at) + number (drop at s₀)
-
-pub putting_starts : {n : ℕ} {s : List ℕ} {at : ℕ} → at ≤ length s → Putting n s s at n at
-putting_starts {n} {s} {at} h =
-    let z : at - at ≡ 0 = omega arith in
-    record { within = omega arith; long = refl; some = rw z (omega arith); least = λ l. absurd (omega arith); done = omega arith }
 
 put_some : (p x v left n : ℕ) → v + x * 256 ≡ left → left * p ≤ n → x * (256 * p) ≤ n
 put_some p x v left n e h = let g : (v + x * 256) * p ≡ left * p = ap (◌* p) e in omega arith
@@ -139,9 +134,6 @@ module _ {n : ℕ} {s₀ s : List ℕ} {at left i : ℕ} (d : Putting n s₀ s a
       let k = power_below (at - i) at (omega arith) in
       omega arith
 
-  pub putting_in : 0 < left → n < 256 ^ at → at ≤ length s₀ → i - 1 < length s
-  putting_in h l w = let o = putting_back h l in let x = d.within in let y = d.long in omega arith
-
   pub putting_turn : 0 < left → n < 256 ^ at → at ≤ length s₀ → Putting n s₀ (set s (i - 1) (left % 256)) at (left / 256) (i - 1)
   putting_turn h l w =
       let o = putting_back h l in
@@ -155,12 +147,6 @@ module _ {n : ℕ} {s₀ s : List ℕ} {at left i : ℕ} (d : Putting n s₀ s a
         done = rw (back_set s i o (omega arith) (left % 256), back_power (length s₀) i o (omega arith), y)
             (put_up (256 ^ (length s₀ - i)) (left % 256) (left / 256) left (number (drop i s)) _ (omega arith) d.done);
       }
-
-  pub putting_ends : left ≤ 0 → Before n s₀ s at i
-  putting_ends h =
-      let z : left ≡ 0 = omega arith in
-      let e : number (drop i s) + 0 * 256 ^ (length s₀ - i) ≡ n * 256 ^ (length s₀ - at) + number (drop at s₀) = rw z at d.done in
-      record { long = d.long; within = d.within; value = omega arith; least = d.least }
 
 -- ---- extended
 
@@ -261,12 +247,6 @@ module _ {s₀ s : List ℕ} {at i : ℕ} (d : Lessening s₀ s at i) where
         value = same_before (i - 1 - at) s₀ _ at (i - 1) (omega arith) (same_less d.kept o _) q;
       }
 
-  pub lessening_ends : i ≤ at → 1 ≤ number (drop at s₀) → Less s₀ s at
-  lessening_ends h l =
-      let z : i ≡ at = let k = d.low in omega arith in
-      let e : number (drop at s₀) ≡ 0 = rw z at d.zeros in
-      absurd (omega arith)
-
 -- ---- past_zero
 
 pub past_zero : {s : List ℕ} {at : ℕ} → get_or s at 0 ≡ 0 → at < length s → 256 ^ (length s - (at + 1)) ≤ number (drop at s) + 1 → Past s at (at + 1)
@@ -295,18 +275,18 @@ past_none {s} {at} e h =
 
 -- ---- turn_over
 
+-- the bytes from at to i are turned over, and those from i on are as they were
 pub record Turning (s₀ s : List ℕ) (at i : ℕ) : Type 0 where
-  pub kept : Same s₀ s i
-  pub low : at ≤ i
-  pub done : drop i s ≡ turned_over (drop i s₀)
+  pub long : length s ≡ length s₀
+  pub done : (k : ℕ) → at ≤ k → k < i → get_or s k 0 ≡ 255 - get_or s₀ k 0
+  pub rest : (k : ℕ) → i ≤ k → get_or s k 0 ≡ get_or s₀ k 0
 
-pub turning_starts : {s : List ℕ} {at : ℕ} → at ≤ length s → Turning s s at (length s)
+turned_each : (xs ys : List ℕ) → length xs ≡ length ys → ((k : ℕ) → k < length ys → get_or xs k 0 ≡ 255 - get_or ys k 0) → xs ≡ turned_over ys
 unfolding turned_over
-turning_starts {s} {at} h = record { kept = same_all s; low = h; done = rw (drop-length s) }
-
-turned_cons : (b : ℕ) (bs : List ℕ) → turned_over (b ∷ bs) ≡ (255 - b) ∷ turned_over bs
-unfolding turned_over
-turned_cons b bs = refl
+turned_each [] [] l h = refl
+turned_each [] (y ∷ ys) l h = absurd (omega arith)
+turned_each (x ∷ xs) [] l h = absurd (omega arith)
+turned_each (x ∷ xs) (y ∷ ys) l h = ap₂ ◌∷◌ (h 0 (omega arith)) (turned_each xs ys (omega arith) (λ k m. h (suc k) (omega arith)))
 
 pub set_back : (s : List ℕ) (i v : ℕ) → 0 < i → i ≤ length s → drop (i - 1) (set s (i - 1) v) ≡ v ∷ drop i s
 set_back s i v h l =
@@ -314,21 +294,12 @@ set_back s i v h l =
     back_cons (set s (i - 1) v) i h k ∙ ap₂ ◌∷◌ (get_or-set_same s (i - 1) v 0 (omega arith)) (drop-set-lt i s (i - 1) v (omega arith))
 
 module _ {s₀ s : List ℕ} {at i : ℕ} (d : Turning s₀ s at i) where
-  pub turning_turn : {v : ℕ} → v ≡ 255 - get_or s (i - 1) 0 → at < i → Turning s₀ (set s (i - 1) v) at (i - 1)
-  turning_turn {v} e h =
-      let w = d.kept.within in
-      let l = d.kept.long in
-      let o : 0 < i = omega arith in
-      let f : v ≡ 255 - get_or s₀ (i - 1) 0 = e ∙ ap (255 -◌) (d.kept.same (i - 1) (omega arith)) in
+  pub turning_ends : length s₀ ≤ i → at ≤ length s₀ → Ends (turned_over (drop at s₀)) s₀ s at
+  turning_ends h l =
+      let g = d.long in
       record {
-        kept = same_less d.kept o v;
-        low = omega arith;
-        done = set_back s i v o (omega arith) ∙ ap₂ ◌∷◌ f d.done ∙ sym (ap turned_over (back_cons s₀ i o w) ∙ turned_cons (get_or s₀ (i - 1) 0) (drop i s₀));
+        long = g;
+        within = omega arith;
+        is = turned_each (drop at s) (drop at s₀) (length-drop at s ∙ ap (◌- at) g ∙ sym (length-drop at s₀))
+            (λ k m. get_or-drop at s k 0 ∙ d.done (at + k) (omega arith) (omega (arith, length-drop at s₀)) ∙ ap (255 -◌) (sym (get_or-drop at s₀ k 0)));
       }
-
-  pub turning_ends : i ≤ at → Ends (turned_over (drop at s₀)) s₀ s at
-  turning_ends h =
-      let z : i ≡ at = let k = d.low in omega arith in
-      let w = d.kept.within in
-      let l = d.kept.long in
-      record { long = l; within = omega arith; is = rw z at d.done }

@@ -119,12 +119,6 @@ module _ {s : List ℕ} {at : ℕ} (h : Holds (number (drop at s)) s at) where
       omega arith
 
   module _ {s₁ : List ℕ} (d : Less s s₁ at) (x : at ≡ length s → ⊥) where
-    pub negate_in : at < length s₁
-    negate_in = let w = h.within in let n = d.long in omega arith
-
-    pub negate_past : 256 ^ (length s₁ - (at + 1)) ≤ number (drop at s₁) + 1
-    negate_past = let w = h.within in let n = d.long in let v = d.value in let l = h.least (omega arith) in rw (n, v) l
-
     module _ {top : ℕ} (p : Past s₁ at top) where
       pub negate_one : top ≡ length s₁ → Ends (signed_bytes (minus (number (drop at s)))) s (set s₁ at 255) at
       negate_one e =
@@ -155,14 +149,6 @@ module _ {s : List ℕ} {at : ℕ} (h : Holds (number (drop at s)) s at) where
               within = t.within;
               is = t.is ∙ ap turned_over b.is ∙ sym (minus_more (number (drop top s₁)) (number (drop at s)) (omega arith) (omega arith));
             }
-
-pub negate_sign : {s : List ℕ} {at top : ℕ} → Past s at top → Holds (number (drop top s)) s top
-negate_sign {s} {at} {top} p =
-    let e : number (drop top s) ≡ number (drop at s) = p.holds.value in
-    record { within = p.holds.within; value = refl; least = λ k. rw e (p.holds.least k) }
-
-pub negate_place : {s : List ℕ} {at top : ℕ} → Past s at top → 0 < at → 0 < top
-negate_place p h = let l = p.low in omega arith
 
 -- ---- how many bytes there are at least
 

@@ -1,28 +1,30 @@
 -- The number of a word's digits chunk by chunk, and what a word spells. Assumes nothing.
-use Prim.Native.Nat.{ℕ, zero, suc, ◌+◌, ◌-◌, ◌*◌, ◌^◌, ◌≤◌, ◌<◌}
+use Prim.Native.Nat.{min, ℕ, zero, suc, ◌+◌, ◌-◌, ◌*◌, ◌^◌, ◌≤◌, ◌<◌}
 use mathlib.Core.Path.{◌≡◌, refl, sym, ◌∙◌, ap}
 use mathlib.Core.List.{List, [], ◌∷◌}
-use mathlib.Core.Bool.{Bool, true, false, ◌&&◌}
+use mathlib.Core.Bool.{Bool, true, false, ◌&&◌, cond}
 use mathlib.Core.Option.{Option, none, some}
 use native.Mathlib.Nat.{pow-le-pow_left, pow-le-pow_right}
 use native.Mathlib.Omega.{arith}
-use borrow.Author.Tests.{eq-eqb, ne_eqb}
+use borrow.Author.Tests.{eqb-true, eq-eqb, ne_eqb}
 use lib.Arith.{digits_lt}
-use lib.Dec.{leb}
-use lib.ListN.{length, drop, get_or, drop_of_length-le}
+use lib.Dec.{leb, eqb}
+use lib.Pointwise.{pointwise}
+use lib.ListN.{length, take, drop, get_or, drop_of_length-le}
 use lib.Pow.{pow-add}
 use lib.Seq.{drop-drop}
-use Rattle.meaning.proofs.Tests.{on_bool, not_false, not_true}
+use Rattle.meaning.proofs.Tests.{on_bool, not_false, not_true, and_inv}
 use Rattle.meaning.specs.Limits.{form_limit}
-use Rattle.meaning.specs.Number.{number, plus, minus, bytes_of}
+use Rattle.meaning.specs.Number.{Signed, number, plus, minus, bytes_of}
 use Rattle.notation.specs.Words.{and_then, decimal_from, decimal, signed_word, signed_bytes, with_sign}
 use Rattle.paths.proofs.NumberLaws.{on_lt}
-use Rattle.decimals.specs.declared.Counted.{Counted}
-use Rattle.decimals.specs.declared.Counted.TheVariants.{From as from-there, Long as too_long}
+use Rattle.std.specs.Prelude as rust
+use Rattle.std.specs.Prelude.{Some, None}
+use Rattle.decimals.specs.declared.Spelled.{Spelled}
 use Rattle.decimals.specs.declared.Spelled.TheVariants.{From, Long, Nothing}
 use Rattle.decimals.specs.Digits.{digits, some_digits, value_from, Chunk}
 use Rattle.decimals.specs.Places.{Holds, Holding, Few, Ends}
-use Rattle.decimals.specs.Spelling.{Large, large, CountedOk, Counting, spells_long, SpelledOk, Spelling}
+use Rattle.decimals.specs.Spelling.{Large, large, CountedOk, Counting, spells_long, SpelledOk, Spelling, digits_spelt}
 use Rattle.decimals.proofs.DigitLaws.{ten_most}
 use Rattle.decimals.proofs.RoomLaws.{power_below}
 use Rattle.decimals.proofs.SignLaws.{at_end, plus_long, minus_long}
@@ -40,27 +42,25 @@ few_bytes k {v} {s} {at} h l =
     omega arith)
     (λ x. omega arith)
 
-pub record Numbering (w : List ℕ) (from : ℕ) (s₀ s : List ℕ) (at i : ℕ) : Type 0 where
-  pub low : from ≤ i
+-- the digits before i are in the room: those from i on say after its number what all say
+pub record Numbering (w s₀ s : List ℕ) (at i : ℕ) : Type 0 where
   pub high : i ≤ length w
   pub long : length s ≡ length s₀
   pub some : digits (drop i w) ≡ true
   pub holds : Holds (number (drop at s)) s at
-  pub small : number (drop at s) < 10 ^ (i - from)
-  pub value : value_from (number (drop at s)) (drop i w) ≡ value_from 0 (drop from w)
+  pub small : number (drop at s) < 10 ^ i
+  pub value : value_from (number (drop at s)) (drop i w) ≡ value_from 0 w
 
-pub number_starts : {w : List ℕ} {from : ℕ} {s : List ℕ} → digits (drop from w) ≡ true → from ≤ length w → Numbering w from s s (length s) from
-number_starts {w} {from} {s} d h =
-    let z : from - from ≡ 0 = omega arith in
+pub number_starts : (w : List ℕ) {s : List ℕ} → digits w ≡ true → Numbering w s s (length s) 0
+number_starts w {s} d =
     let e = at_end s (length s) (omega arith) in
     record {
-      low = omega arith;
-      high = h;
+      high = omega arith;
       long = refl;
       some = d;
       holds = record { within = omega arith; value = refl; least = λ l. absurd (omega arith) };
-      small = rw (z, e) (omega arith);
-      value = ap (λ n. value_from n (drop from w)) e;
+      small = rw e (omega arith);
+      value = ap (λ n. value_from n w) e;
     }
 
 digits_drop : (k : ℕ) (cs : List ℕ) → digits cs ≡ true → digits (drop k cs) ≡ true
@@ -83,42 +83,41 @@ unfolding value_from
 value_more n [] = omega arith
 value_more n (c ∷ cs) = let h = value_more (n * 10 + (c - 0x30)) cs in omega arith
 
-module _ {w : List ℕ} {from : ℕ} {s₀ s : List ℕ} {at i : ℕ} (d : Numbering w from s₀ s at i) where
-  module _ {end m n : ℕ} (k : Chunk w i end n) (e : m ≡ 10 ^ (end - i)) where
+module _ {w s₀ s : List ℕ} {at i : ℕ} (d : Numbering w s₀ s at i) where
+  module _ {k m n : ℕ} (q : k ≡ min 16 (length w - i)) (c : Chunk w i (i + k) n) (e : m ≡ 10 ^ k) where
+    one_chunk : 10 ^ (i + k - i) ≡ m
+    one_chunk = let z : i + k - i ≡ k = omega arith in ap (10 ^◌) z ∙ sym e
+
     pub number_small : n < m
-    number_small = let x = k.small in omega arith
+    number_small = rw (← one_chunk) c.small
 
-    pub number_most : end ≤ i + 16 → m ≤ 10 ^ 16
-    number_most h = let y = ten_most (end - i) (omega arith) in omega arith
+    pub number_most : m ≤ 10 ^ 16
+    number_most = let y = ten_most k (omega arith) in omega arith
 
-    pub number_place : i < end → end ≤ length w → length w ≤ from + length s₀ → m ≤ 256 ^ at
-    number_place h c l =
-        let f = few_bytes (i - from) d.holds d.small in
+    pub number_place : i < length w → length w ≤ length s₀ → m ≤ 256 ^ at
+    number_place h l =
+        let f = few_bytes i d.holds d.small in
         let g = d.long in
-        let o = d.low in
-        let p : 10 ^ (end - i) ≤ 256 ^ (end - i) = pow-le-pow_left (omega arith) (end - i) in
-        let q : 256 ^ (end - i) ≤ 256 ^ at = pow-le-pow_right (omega arith) (omega arith) in
+        let p : 10 ^ k ≤ 256 ^ k = pow-le-pow_left (omega arith) k in
+        let r : 256 ^ k ≤ 256 ^ at = pow-le-pow_right (omega arith) (omega arith) in
         omega arith
 
-    pub number_turn : {s' : List ℕ} {r : ℕ} → Holding (m * number (drop at s) + n) s s' r → i < end → end ≤ length w → Numbering w from s₀ s' r end
-    number_turn {s'} {r} h x c =
-        let low = d.low in
+    pub number_turn : {s' : List ℕ} {r : ℕ} → Holding (m * number (drop at s) + n) s s' r → i < length w → Numbering w s₀ s' r (i + k)
+    number_turn {s'} {r} h x =
         let v : number (drop r s') ≡ m * number (drop at s) + n = h.holds.value in
-        let f : m * number (drop at s) + n ≡ number (drop at s) * 10 ^ (end - i) + n = rw e (omega arith) in
-        let g : end - from ≡ i - from + (end - i) = omega arith in
-        let p : 10 ^ (end - from) ≡ 10 ^ (i - from) * 10 ^ (end - i) = ap (10 ^◌) g ∙ pow-add 10 (i - from) (end - i) in
+        let f : m * number (drop at s) + n ≡ number (drop at s) * m + n = omega arith in
+        let p : 10 ^ (i + k) ≡ 10 ^ i * m = pow-add 10 i k ∙ ap (10 ^ i *◌) (sym e) in
         record {
-          low = omega arith;
-          high = c;
+          high = omega arith;
           long = h.long ∙ d.long;
-          some = digits_later w i end (omega arith) d.some;
+          some = digits_later w i (i + k) (omega arith) d.some;
           holds = rw v h.holds;
-          small = rw (v ∙ f, p) (digits_lt d.small k.small);
-          value = ap (λ y. value_from y (drop end w)) (v ∙ f) ∙ k.reads (number (drop at s)) ∙ d.value;
+          small = rw (v ∙ f, p) (digits_lt d.small number_small);
+          value = ap (λ y. value_from y (drop (i + k) w)) (v ∙ f) ∙ (rw one_chunk at (c.reads (number (drop at s)))) ∙ d.value;
         }
 
   -- a number of more than k bytes
-  many_bytes : (k : ℕ) → k < length s - at → Large k (value_from 0 (drop from w))
+  many_bytes : (k : ℕ) → k < length s - at → Large k (value_from 0 w)
   many_bytes k h =
       let a : 256 ^ (length s - (at + 1)) ≤ number (drop at s) = d.holds.least (omega arith) in
       let b : 256 ^ k ≤ 256 ^ (length s - (at + 1)) = pow-le-pow_right (omega arith) (omega arith) in
@@ -126,17 +125,17 @@ module _ {w : List ℕ} {from : ℕ} {s₀ s : List ℕ} {at i : ℕ} (d : Numbe
       let e = d.value in
       large (omega arith)
 
-  pub number_long : 8193 < length s - at → Counting (value_from 0 (drop from w)) (length w - from) s₀ s too_long
+  pub number_long : 8193 < length s - at → Counting (value_from 0 w) (length w) s₀ s None
   unfolding CountedOk
   number_long h = record { long = d.long; ok = many_bytes (form_limit + 1) h }
 
-  pub number_ends : length w ≤ i → Counting (value_from 0 (drop from w)) (length w - from) s₀ s (from-there at)
+  pub number_ends : length w ≤ i → Counting (value_from 0 w) (length w) s₀ s (Some at)
   unfolding value_from CountedOk
   number_ends h =
       let z : i ≡ length w = let k = d.high in omega arith in
-      let f = few_bytes (i - from) d.holds d.small in
+      let f = few_bytes i d.holds d.small in
       let g = d.long in
-      let e : number (drop at s) ≡ value_from 0 (drop from w) = sym (ap (value_from (number (drop at s))) (drop_of_length-le w h)) ∙ d.value in
+      let e : number (drop at s) ≡ value_from 0 w = sym (ap (value_from (number (drop at s))) (drop_of_length-le w h)) ∙ d.value in
       record { long = g; ok = record { long = g; holds = rw e at d.holds; few = omega arith } }
 
 -- ---- the definition, by cases
@@ -172,38 +171,24 @@ unfolding some_digits
 some_all [] h = not_false h
 some_all (c ∷ cs) h = h
 
-plus_bytes : (v : ℕ) → some (signed_bytes (plus v)) ≡ some (with_sign (bytes_of v))
-unfolding signed_bytes
-plus_bytes v = refl
-
 -- the bytes that a word spells
 abbrev pub spelt : List ℕ → Option (List ℕ)
 spelt w = and_then (signed_word w) λ s. some (signed_bytes s)
 
-minus_yes : (w : List ℕ) (v : ℕ) → (length w ≡ 0 → ⊥) → get_or w 0 0 ≡ 0x2d → decimal (drop 1 w) ≡ some v → spelt w ≡ some (signed_bytes (minus v))
-unfolding signed_word and_then
-minus_yes [] v h e d = absurd (h refl)
-minus_yes (c ∷ cs) v h e d = rw (eq-eqb c 0x2d e, d, signed_word)
+and_some : (o : Option ℕ) (f : ℕ → Signed) → and_then o (λ n. some (signed_bytes (f n))) ≡ and_then (and_then o λ n. some (f n)) λ s. some (signed_bytes s)
+unfolding and_then
+and_some none f = refl
+and_some (some n) f = refl
 
-minus_no : (w : List ℕ) → (length w ≡ 0 → ⊥) → get_or w 0 0 ≡ 0x2d → decimal (drop 1 w) ≡ none → spelt w ≡ none
-unfolding signed_word and_then
-minus_no [] h e d = absurd (h refl)
-minus_no (c ∷ cs) h e d = rw (eq-eqb c 0x2d e, d, signed_word)
+after_minus : (w : List ℕ) → get_or w 0 0 ≡ 0x2d → digits_spelt true (drop 1 w) ≡ spelt w
+unfolding signed_word digits_spelt
+after_minus [] e = absurd (omega arith)
+after_minus (c ∷ cs) e = rw (eq-eqb c 0x2d e, signed_word) (and_some (decimal cs) minus)
 
-plus_yes : (w : List ℕ) (v : ℕ) → (length w ≡ 0 → ⊥) → (get_or w 0 0 ≡ 0x2d → ⊥) → decimal w ≡ some v → spelt w ≡ some (signed_bytes (plus v))
-unfolding signed_word and_then
-plus_yes [] v h e d = absurd (h refl)
-plus_yes (c ∷ cs) v h e d = rw (ne_eqb c 0x2d e, d, signed_word)
-
-plus_no : (w : List ℕ) → (length w ≡ 0 → ⊥) → (get_or w 0 0 ≡ 0x2d → ⊥) → decimal w ≡ none → spelt w ≡ none
-unfolding signed_word and_then
-plus_no [] h e d = absurd (h refl)
-plus_no (c ∷ cs) h e d = rw (ne_eqb c 0x2d e, d, signed_word)
-
-empty_no : (w : List ℕ) → length w ≡ 0 → spelt w ≡ none
-unfolding signed_word and_then
-empty_no [] h = refl
-empty_no (c ∷ cs) h = absurd (omega arith)
+no_minus : (w : List ℕ) → (get_or w 0 0 ≡ 0x2d → ⊥) → digits_spelt false w ≡ spelt w
+unfolding signed_word digits_spelt and_then
+no_minus [] e = refl
+no_minus (c ∷ cs) e = rw (ne_eqb c 0x2d e, signed_word) (and_some (decimal (c ∷ cs)) plus)
 
 -- ---- signed_word
 
@@ -219,63 +204,72 @@ long_spelt : {o : Option (List ℕ)} {b s s₁ : List ℕ} → length s₁ ≡ l
 unfolding SpelledOk
 long_spelt {o} {b} {s} {s₁} l e h = record { long = l; ok = spells_long b e h }
 
-module _ {v k : ℕ} {s s' : List ℕ} {q : Counted} {at : ℕ} where
-  counted : Counting v k s s' q → q ≡ from-there at → Few v k s s' at
+module _ {v k : ℕ} {s s' : List ℕ} {q : rust.Option ℕ} {at : ℕ} where
+  counted : Counting v k s s' q → q ≡ Some at → Few v k s s' at
   unfolding CountedOk
   counted d e = rw e at d.ok
 
-  pub word_holds : Counting v k s s' q → q ≡ from-there at → Holds (number (drop at s')) s' at
+  pub word_holds : Counting v k s s' q → q ≡ Some at → Holds (number (drop at s')) s' at
   word_holds d e = let f = counted d e in rw f.holds.value f.holds
 
 -- there is a place before a word's number
-pub word_place : (w : List ℕ) (from : ℕ) {v : ℕ} {s s' : List ℕ} {q : Counted} {at : ℕ} → Counting v (length w - from) s s' q → q ≡ from-there at → length w < length s → 0 < at
-word_place w from d e h = let f = (counted d e).few in omega arith
+pub word_place : (w : List ℕ) {v : ℕ} {s s' : List ℕ} {q : rust.Option ℕ} {at : ℕ} → Counting v (length w) s s' q → q ≡ Some at → length w < length s → 0 < at
+word_place w d e h = let f = (counted d e).few in omega arith
 
 -- the bytes of a number of more than k + 1 bytes
-large_plus : (k : ℕ) {v : ℕ} → Large (k + 1) v → k < length (signed_bytes (plus v))
-large_plus k {v} (large h) = plus_long k v h
+large_bytes : (below : Bool) (k : ℕ) {v : ℕ} → Large (k + 1) v → k < length (signed_bytes (cond below (minus v) (plus v)))
+large_bytes true k {v} (large h) = minus_long k v h
+large_bytes false k {v} (large h) = plus_long k v h
 
-large_minus : (k : ℕ) {v : ℕ} → Large (k + 1) v → k < length (signed_bytes (minus v))
-large_minus k {v} (large h) = minus_long k v h
-
-counted_long : {v k : ℕ} {s s' : List ℕ} {q : Counted} → Counting v k s s' q → q ≡ too_long → Large (form_limit + 1) v
+counted_long : {v k : ℕ} {s s' : List ℕ} {q : rust.Option ℕ} → Counting v k s s' q → q ≡ None → Large (form_limit + 1) v
 unfolding CountedOk
 counted_long d e = rw e at d.ok
 
-pub number_digits : (cs : List ℕ) {b : Bool} → b ≡ some_digits cs → b ≡ true → digits cs ≡ true
-number_digits cs e f = some_all cs (sym e ∙ f)
+module _ (w : List ℕ) {b : Bool} (e : b ≡ some_digits w) where
+  pub word_digits : b ≡ true → digits w ≡ true
+  word_digits f = some_all w (sym e ∙ f)
 
-module _ (w : List ℕ) where
-  pub word_empty : {s : List ℕ} → length w ≡ 0 → Spelling (spelt w) s s Nothing
-  word_empty h = nothing (empty_no w h)
+  module _ (below : Bool) where
+    no_digits : b ≡ false → digits_spelt below w ≡ none
+    unfolding digits_spelt and_then
+    no_digits f = rw (some_no w (sym e ∙ f))
 
-  module _ {b : Bool} where
-    pub minus_nothing : {s : List ℕ} → b ≡ some_digits (drop 1 w) → b ≡ false → get_or w 0 0 ≡ 0x2d → (length w ≡ 0 → ⊥) → Spelling (spelt w) s s Nothing
-    minus_nothing e f x n = nothing (minus_no w n x (some_no (drop 1 w) (sym e ∙ f)))
+    all_digits : b ≡ true → digits_spelt below w ≡ some (signed_bytes (cond below (minus (value_from 0 w)) (plus (value_from 0 w))))
+    unfolding digits_spelt and_then
+    all_digits f = rw (some_yes w (sym e ∙ f))
 
-    pub plus_nothing : {s : List ℕ} → b ≡ some_digits w → b ≡ false → (get_or w 0 0 ≡ 0x2d → ⊥) → (length w ≡ 0 → ⊥) → Spelling (spelt w) s s Nothing
-    plus_nothing e f x n = nothing (plus_no w n x (some_no w (sym e ∙ f)))
+    pub word_nothing : {s : List ℕ} → b ≡ false → Spelling (digits_spelt below w) s s Nothing
+    word_nothing f = nothing (no_digits f)
 
-    module _ {k : ℕ} {s s₁ : List ℕ} {q : Counted} where
-      pub minus_over : Counting (value_from 0 (drop 1 w)) k s s₁ q → q ≡ too_long
-          → b ≡ some_digits (drop 1 w) → b ≡ true → get_or w 0 0 ≡ 0x2d → (length w ≡ 0 → ⊥) → Spelling (spelt w) s s₁ Long
-      minus_over c l e g x n =
-          long_spelt c.long (minus_yes w (value_from 0 (drop 1 w)) n x (some_yes (drop 1 w) (sym e ∙ g))) (large_minus form_limit (counted_long c l))
+    module _ {k : ℕ} {s s₁ : List ℕ} {q : rust.Option ℕ} (c : Counting (value_from 0 w) k s s₁ q) (f : b ≡ true) where
+      pub word_over : q ≡ None → Spelling (digits_spelt below w) s s₁ Long
+      word_over l = long_spelt c.long (all_digits f) (large_bytes below form_limit (counted_long c l))
 
-      pub plus_over : Counting (value_from 0 w) k s s₁ q → q ≡ too_long
-          → b ≡ some_digits w → b ≡ true → (get_or w 0 0 ≡ 0x2d → ⊥) → (length w ≡ 0 → ⊥) → Spelling (spelt w) s s₁ Long
-      plus_over c l e g x n =
-          long_spelt c.long (plus_yes w (value_from 0 w) n x (some_yes w (sym e ∙ g))) (large_plus form_limit (counted_long c l))
+  module _ {k : ℕ} {s s₁ s₂ : List ℕ} {q : rust.Option ℕ} {at r : ℕ} (c : Counting (value_from 0 w) k s s₁ q) (l : q ≡ Some at) (f : b ≡ true) where
+    pub minus_spelt : {below : Bool} → Ends (signed_bytes (minus (number (drop at s₁)))) s₁ s₂ r → below ≡ true → Spelling (digits_spelt below w) s s₂ (From r)
+    minus_spelt {below} d g =
+        let h = counted c l in
+        rw g (spells d h.long (all_digits true f ∙ ap (λ v. some (signed_bytes (minus v))) (sym h.holds.value)))
 
-      module _ {s₂ : List ℕ} {at r : ℕ} where
-        pub minus_spelt : Ends (signed_bytes (minus (number (drop at s₁)))) s₁ s₂ r → Counting (value_from 0 (drop 1 w)) k s s₁ q → q ≡ from-there at
-            → b ≡ some_digits (drop 1 w) → b ≡ true → get_or w 0 0 ≡ 0x2d → (length w ≡ 0 → ⊥) → Spelling (spelt w) s s₂ (From r)
-        minus_spelt d c l e g x n =
-            let f = counted c l in
-            spells d f.long (minus_yes w (value_from 0 (drop 1 w)) n x (some_yes (drop 1 w) (sym e ∙ g)) ∙ ap (λ v. some (signed_bytes (minus v))) (sym f.holds.value))
+    pub plus_spelt : {below : Bool} → Ends (with_sign (bytes_of (number (drop at s₁)))) s₁ s₂ r → below ≡ false → Spelling (digits_spelt below w) s s₂ (From r)
+    unfolding signed_bytes
+    plus_spelt {below} d g =
+        let h = counted c l in
+        let a : digits_spelt false w ≡ some (with_sign (bytes_of (value_from 0 w))) = all_digits false f in
+        rw g (spells d h.long (a ∙ ap (λ v. some (with_sign (bytes_of v))) (sym h.holds.value)))
 
-        pub plus_spelt : Ends (with_sign (bytes_of (number (drop at s₁)))) s₁ s₂ r → Counting (value_from 0 w) k s s₁ q → q ≡ from-there at
-            → b ≡ some_digits w → b ≡ true → (get_or w 0 0 ≡ 0x2d → ⊥) → (length w ≡ 0 → ⊥) → Spelling (spelt w) s s₂ (From r)
-        plus_spelt d c l e g x n =
-            let f = counted c l in
-            spells d f.long (plus_yes w (value_from 0 w) n x (some_yes w (sym e ∙ g)) ∙ plus_bytes (value_from 0 w) ∙ ap (λ v. some (with_sign (bytes_of v))) (sym f.holds.value))
+minus_first : (w : List ℕ) → pointwise eqb (take 1 w) (0x2d ∷ []) ≡ true → get_or w 0 0 ≡ 0x2d
+minus_first [] h = not_false h
+minus_first (c ∷ cs) h = eqb-true c 0x2d (and_inv (eqb c 0x2d) true h).0
+
+minus_not : (w : List ℕ) → pointwise eqb (take 1 w) (0x2d ∷ []) ≡ false → get_or w 0 0 ≡ 0x2d → ⊥
+minus_not [] h e = omega arith
+minus_not (c ∷ cs) h e = not_false (sym h ∙ rw (eq-eqb c 0x2d e))
+
+-- the word as a whole
+module _ (w : List ℕ) {s s₁ : List ℕ} {r : Spelled} where
+  pub word_minus : {ds : List ℕ} → pointwise eqb (take 1 w) (0x2d ∷ []) ≡ true → ds ≡ drop 1 w → Spelling (digits_spelt true ds) s s₁ r → Spelling (spelt w) s s₁ r
+  word_minus h e d = rw (e, after_minus w (minus_first w h)) at d
+
+  pub word_plus : pointwise eqb (take 1 w) (0x2d ∷ []) ≡ false → Spelling (digits_spelt false w) s s₁ r → Spelling (spelt w) s s₁ r
+  word_plus h d = rw (no_minus w (minus_not w h)) at d

@@ -1,9 +1,11 @@
 -- What a word is promised to spell: bytes that stand at the room's end, more than a form may have, or nothing.
 use Rattle.std.specs.Prelude.{ℕ, ◌+◌, ◌^◌, ◌≤◌, ◌<◌, ◌≡◌, List, length, drop}
+use Rattle.std.specs.Prelude as rust
+use Rattle.std.specs.Prelude.{Bool, cond, Some, None}
 use Rattle.std.proofs.Math.Option.{Option, none, some}
 use Rattle.meaning.specs.Limits.{form_limit}
-use Rattle.decimals.specs.declared.Counted.{Counted}
-use Rattle.decimals.specs.declared.Counted.TheVariants.{From as from-there, Long as too_long}
+use Rattle.meaning.specs.Number.{plus, minus}
+use Rattle.notation.specs.Words.{and_then, decimal, signed_bytes}
 use Rattle.decimals.specs.declared.Spelled.{Spelled}
 use Rattle.decimals.specs.declared.Spelled.TheVariants.{From, Long, Nothing}
 use Rattle.decimals.specs.Places.{Few}
@@ -14,16 +16,21 @@ use Rattle.decimals.specs.Places.{Few}
 pub data Large (k v : ℕ) : Type 0 where
   large : 256 ^ k ≤ v → Large k v
 
-unfoldable pub CountedOk : ℕ → ℕ → List ℕ → List ℕ → Counted → Type 0
-CountedOk v k s s' (from-there at) = Few v k s s' at
-CountedOk v k s s' too_long = Large (form_limit + 1) v
+unfoldable pub CountedOk : ℕ → ℕ → List ℕ → List ℕ → rust.Option ℕ → Type 0
+CountedOk v k s s' (Some at) = Few v k s s' at
+CountedOk v k s s' None = Large (form_limit + 1) v
 
 -- v in no more than k bytes, and the room keeps its length
-pub record Counting (v k : ℕ) (s s' : List ℕ) (r : Counted) : Type 0 where
+pub record Counting (v k : ℕ) (s s' : List ℕ) (r : rust.Option ℕ) : Type 0 where
   pub long : length s' ≡ length s
   pub ok : CountedOk v k s s' r
 
 -- ---- a word
+
+-- the shortest signed bytes of the number that digits say, or of minus this number
+unfoldable pub digits_spelt : Bool → List ℕ → Option (List ℕ)
+unfolding and_then decimal signed_bytes
+digits_spelt below w = and_then (decimal w) λ n. some (signed_bytes (cond below (minus n) (plus n)))
 
 -- the definition gives the bytes from at on
 pub record Spells (o : Option (List ℕ)) (s' : List ℕ) (at : ℕ) : Type 0 where

@@ -10,6 +10,3 @@ returns-then-room-i-ne0 c = search laws.lessening_last
 
 pub loop-i-preserved : goal.loop-i-preserved
 loop-i-preserved c = search laws.lessening_turn
-
-pub returns : goal.returns
-returns c = search laws.lessening_ends

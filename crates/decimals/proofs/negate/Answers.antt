@@ -9,14 +9,8 @@ returns-then-at-room c = search laws.negate_none
 pub less_one-requires : goal.less_one-requires
 less_one-requires c = search (laws.negate_some, rules)
 
-pub past_zero-top-requires : goal.past_zero-top-requires
-past_zero-top-requires c = search (laws.negate_in, laws.negate_past)
-
 pub returns-then-top-room : goal.returns-then-top-room
 returns-then-top-room c = search laws.negate_one
-
-pub with_sign-from-requires : goal.with_sign-from-requires
-with_sign-from-requires c = search (laws.negate_sign, laws.negate_place)
 
 pub returns : goal.returns
 returns c = search laws.negate_ends

@@ -4,6 +4,3 @@ use Rattle.decimals.proofs.times_plus.Given as goal
 
 abbrev pub invariant-loop-i : goal.invariant-loop-i
 invariant-loop-i l = laws.Timing l.m l.d l.initial.room l.room l.at l.carry l.i
-
-abbrev pub decreases-loop-i : goal.decreases-loop-i
-decreases-loop-i l = l.i

@@ -1,9 +1,6 @@
--- `decimals::turn_over` meets its contract. The invariant: the bytes from index i on are turned over. Assumes nothing.
+-- `decimals::turn_over` meets its contract. The invariant: the bytes from at to i are turned over. Assumes nothing.
 use Rattle.decimals.proofs.RoomLaws as laws
 use Rattle.decimals.proofs.turn_over.Given as goal
 
 abbrev pub invariant-loop-i : goal.invariant-loop-i
 invariant-loop-i l = laws.Turning l.initial.room l.room l.at l.i
-
-abbrev pub decreases-loop-i : goal.decreases-loop-i
-decreases-loop-i l = l.i
