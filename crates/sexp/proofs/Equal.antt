@@ -2,13 +2,11 @@
 use mathlib.Core.Path.{◌≡◌, refl, sym, ◌∙◌, ap}
 use mathlib.Core.List.{List, [], ◌∷◌}
 use mathlib.Core.Bool.{Bool, true, false, not, ◌&&◌}
-use Prim.Native.Nat.{ℕ, suc, ◌+◌, ◌<◌, ◌≤◌}
+use Prim.Native.Nat.{ℕ, ◌+◌, ◌<◌, ◌≤◌, min, max}
 use native.Mathlib.Omega.{arith}
-use native.Mathlib.Numerals.{add-one}
-use lib.ListN.{length, drop, get_or, drop_of_length-le}
-use lib.Seq.{drop-cons}
 use lib.Dec.{eqb}
-use borrow.Author.Tests.{eq-eqb, ne_eqb, not-true}
+use borrow.Author.Tests.{eq-eqb, not-true}
+use Rattle.std.specs.Str.{bytes_eq}
 use Rattle.meaning.specs.Tree.{Tree, atom, pair, same_bytes, equal_to}
 use Rattle.meaning.proofs.TreeLaws.{equal_to_sound}
 use Rattle.store.specs.declared.Cell.{Cell}
@@ -19,6 +17,7 @@ use Rattle.store.specs.Nodes.{tree_at, print_of}
 use Rattle.store.specs.Store.{Ready}
 use Rattle.store.specs.Makers.{Grown, Answered, Joins}
 use Rattle.store.proofs.Ready.{Same, same, room, ready_left, ready_right, grown_none, grown_both, grown_ready, grown_tree}
+use Rattle.store.proofs.Places.{split}
 use Rattle.store.proofs.Trees.{cell_below, tree_pair, tree_atom}
 use Rattle.sexp.specs.declared.Compared.{Compared}
 use Rattle.sexp.specs.declared.Compared.TheVariants.{Told, Parts}
@@ -26,34 +25,13 @@ use Rattle.sexp.specs.Canon.{Canon, Alike, BothPairs, of_cells, compared}
 
 -- ---- bytes
 
-and_false : (b : Bool) → (b && false) ≡ false
-and_false true = refl
-and_false false = refl
-
-bytes_long : (x y : List ℕ) → (length x ≡ length y → ⊥) → same_bytes x y ≡ false
+-- what std's `==` says of them
+pub bytes_are : (x y : List ℕ) → bytes_eq x y ≡ same_bytes x y
 unfolding same_bytes
-bytes_long [] [] h = absurd (h refl)
-bytes_long [] (y ∷ ys) h = refl
-bytes_long (x ∷ xs) [] h = refl
-bytes_long (x ∷ xs) (y ∷ ys) h = rw (bytes_long xs ys (λ e. h (ap suc e))) (and_false (eqb x y))
-
-pub bytes_len : (x y : List ℕ) → (length x ≡ length y → ⊥) → false ≡ same_bytes x y
-bytes_len x y h = sym (bytes_long x y h)
-
-module _ (x y : List ℕ) (i : ℕ) (l : length x ≡ length y) (e : same_bytes (drop i x) (drop i y) ≡ same_bytes x y) where
-  step : i < length x → (eqb (get_or x i 0) (get_or y i 0) && same_bytes (drop (suc i) x) (drop (suc i) y)) ≡ same_bytes x y
-  unfolding same_bytes
-  step h = let k : i < length y = omega arith in rw (drop-cons x i 0 h, drop-cons y i 0 k) at e
-
-  pub bytes_ne : i < length x → (get_or x i 0 ≡ get_or y i 0 → ⊥) → false ≡ same_bytes x y
-  bytes_ne h n = rw (ne_eqb (get_or x i 0) (get_or y i 0) n) at (step h)
-
-  pub bytes_eq : i < length x → get_or x i 0 ≡ get_or y i 0 → same_bytes (drop (i + 1) x) (drop (i + 1) y) ≡ same_bytes x y
-  bytes_eq h n = rw add-one (rw (eq-eqb (get_or x i 0) (get_or y i 0) n) at (step h))
-
-  pub bytes_end : length x ≤ i → true ≡ same_bytes x y
-  unfolding same_bytes
-  bytes_end h = let k : length y ≤ i = omega arith in rw (drop_of_length-le x h, drop_of_length-le y k) at e
+bytes_are [] [] = refl
+bytes_are [] (y ∷ ys) = refl
+bytes_are (x ∷ xs) [] = refl
+bytes_are (x ∷ xs) (y ∷ ys) = ap (λ (b : Bool). eqb x y && b) (bytes_are xs ys)
 
 bytes_refl : (x : List ℕ) → same_bytes x x ≡ true
 unfolding same_bytes
@@ -66,9 +44,6 @@ equal_refl (atom b) = bytes_refl b
 equal_refl (pair l r) = rw (equal_refl l) (equal_refl r)
 
 -- ---- the lowest known same node
-
-pub same_starts : (f s : List ℕ) (c : Charges) (n : ℕ) → Ready f s c n → Same f s n n
-same_starts f s c n h = record { node = h.node; below = omega arith; tree = refl }
 
 same_ready : {f s : List ℕ} {c : Charges} {n m : ℕ} → Same f s n m → Ready f s c n → Ready f s c m
 same_ready {f} {s} {c} {n} {m} v h = let o : n < c.end = h.old in let b : m ≤ n = v.below in record { held = h.held; node = v.node; old = omega arith }
@@ -83,22 +58,16 @@ same_turn f s c n m x v e h =
     let p : x ≤ m = w.below in
     record { node = w.node; below = omega arith; tree = w.tree ∙ v.tree }
 
-pub same_ends : (f s : List ℕ) (c : Charges) (n m : ℕ) → Same f s n m → Ready f s c n → Canon f s c n m
-same_ends f s c n m v h = record { ready = same_ready v h; below = v.below; tree = v.tree }
-
 -- ---- joining
 
-pub join_up : (f s : List ℕ) (c : Charges) (a b : ℕ) → Alike f s c a b → a < b → Joins f s c b a
-join_up f s c a b k o = record { upper = k.other; lower = k.one; below = omega arith; is_pair = k.other_pair; tree = k.tree }
-
-pub join_down : (f s : List ℕ) (c : Charges) (a b : ℕ) → Alike f s c a b → b ≤ a → Joins f s c a b
-join_down f s c a b k o = record { upper = k.one; lower = k.other; below = o; is_pair = k.one_pair; tree = sym k.tree }
-
-pub prints_are : (a b p q : ℕ) → p ≡ a → q ≡ b → not (eqb p q) ≡ not (eqb a b)
-prints_are a b p q ep eq = rw (ep, eq)
-
-pub atoms_are : (x y a b : List ℕ) (u : Bool) → u ≡ same_bytes x y → x ≡ a → y ≡ b → u ≡ same_bytes a b
-atoms_are x y a b u e ex ey = rw (← ex, ← ey) e
+-- the higher one remembers the lower
+pub join_ordered : (f s : List ℕ) (c : Charges) (a b : ℕ) → Alike f s c a b → Joins f s c (max a b) (min a b)
+join_ordered f s c a b k =
+    split a b
+    (λ o. let h : max a b ≡ b = omega arith in let l : min a b ≡ a = omega arith in
+    rw (h, l) (record { upper = k.other; lower = k.one; below = omega arith; is_pair = k.other_pair; tree = k.tree }))
+    (λ o. let h : max a b ≡ a = omega arith in let l : min a b ≡ b = omega arith in
+    rw (h, l) (record { upper = k.one; lower = k.other; below = o; is_pair = k.one_pair; tree = sym k.tree }))
 
 -- ---- equal_node: the lowest nodes a and b that are known to be the same as x and y
 
@@ -109,9 +78,6 @@ module _ {f s : List ℕ} {c : Charges} {x y a b : ℕ} (ca : Canon f s c x a) (
 
   pub equal_same : a ≡ b → Answered f s s c true (equal_to (tree_at f s x) (tree_at f s y))
   equal_same e = from_canon s true (record { answer = rw e (sym (equal_refl (tree_at f s b))); grown = grown_none f s c ca.ready.held })
-
-pub canon_falls : (f s : List ℕ) (c : Charges) (x a t : ℕ) → Canon f s c x a → x + x + 1 ≡ t → a + a < t
-canon_falls f s c x a t k e = let o : a ≤ x = k.below in omega arith
 
 -- ---- compare_records: two nodes, and what was looked up there
 

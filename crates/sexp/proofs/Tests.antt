@@ -69,12 +69,6 @@ pub record Onward (f s : List ℕ) (n m : ℕ) : Type 0 where
   pub room : Room s m
   pub proper : is_proper (tree_at f s m) ≡ is_proper (tree_at f s n)
 
-pub onward_starts : (f s : List ℕ) (n : ℕ) → Room s n → Onward f s n n
-onward_starts f s n h = record { room = h; proper = refl }
-
-pub onward_room : (f s : List ℕ) (n m : ℕ) → Onward f s n m → Room s m
-onward_room f s n m h = h.room
-
 pub onward_turn : (f s : List ℕ) (n m l r : ℕ) (q : Cell) → Onward f s n m → q ≡ Pair l r → q ≡ cell_at s m → Onward f s n r
 unfolding is_proper
 onward_turn f s n m l r q h ep eq =

@@ -22,7 +22,10 @@ use store::{Cell, Charges, Made};
 pub fn is_byte(b: &[u8], k: u8) -> bool
     ensures { result ≡ is_byte k b.now }
 {
-    if b.len() == 1 { b[0] == k } else { false }
+    match b {
+        [byte] => *byte == k,
+        _ => false,
+    }
 }
 
 // An atom of the one byte k.
@@ -31,7 +34,7 @@ pub fn is_byte_node<'a>(form: &'a [u8], room: &'a [u8], n: usize, k: u8) -> bool
     ensures { result ≡ is_byte_tree k (tree_in form.now room.now n) }
 {
     match store::look_node(room, n) {
-        Cell::Pair(_, _) => false,
+        Cell::Pair(..) => false,
         Cell::Atom => is_byte(store::atom_bytes(form, room, n), k),
     }
 }
@@ -42,8 +45,8 @@ pub fn non_nil_node<'a>(form: &'a [u8], room: &'a [u8], n: usize) -> bool
     ensures { result ≡ non_nil (tree_in form.now room.now n) }
 {
     match store::look_node(room, n) {
-        Cell::Pair(_, _) => true,
-        Cell::Atom => store::atom_bytes(form, room, n).len() != 0,
+        Cell::Pair(..) => true,
+        Cell::Atom => !store::atom_bytes(form, room, n).is_empty(),
     }
 }
 
@@ -65,20 +68,10 @@ pub fn proper_list_node<'a>(form: &'a [u8], room: &'a [u8], n: usize) -> bool
     let mut m = n;
     loop {
         match store::look_node(room, m) {
-            Cell::Pair(_, r) => {
-                m = r;
-            }
-            Cell::Atom => {
-                return is_nil_node(form, room, m);
-            }
+            Cell::Pair(_, r) => m = r,
+            Cell::Atom => return is_nil_node(form, room, m),
         }
     }
-}
-
-fn wide(x: u16) -> usize
-    ensures { (result ≡ x) × (result < 65536) }
-{
-    x as usize
 }
 
 // Rust's `enlist`, onto any tail: the list of the first k items before tail, built from its end.
@@ -94,10 +87,8 @@ pub fn enlist_node<'a>(
     ensures { MadeOk form.now room.old room.new ch (pair_cost * k) (enlist_onto (map (tree_in form.now room.old) (take k items.now)) (tree_in form.now room.old tail)) result }
 {
     let mut made = Made { node: tail, ch };
-    let mut i = k;
-    while 0 < i {
-        i -= 1;
-        made = store::pair_node(form, room, made.ch, wide(items[i]), made.node)?;
+    for item in items[..k].iter().rev() {
+        made = store::pair_node(form, room, made.ch, usize::from(*item), made.node)?;
     }
     Ok(made)
 }
@@ -124,17 +115,7 @@ pub enum Compared {
 pub fn same_bytes(x: &[u8], y: &[u8]) -> bool
     ensures { result ≡ same_bytes x.now y.now }
 {
-    if x.len() != y.len() {
-        return false;
-    }
-    let mut i = 0;
-    while i < x.len() {
-        if x[i] != y[i] {
-            return false;
-        }
-        i += 1;
-    }
-    true
+    x == y
 }
 
 // The bytes of two atoms, by node.
@@ -152,15 +133,10 @@ pub fn compare_records<'a>(form: &'a [u8], room: &'a [u8], a: usize, b: usize) -
     requires { Room room.now a × Room room.now b }
     ensures { result ≡ compared form.now room.now a b }
 {
-    match store::look_node(room, a) {
-        Cell::Pair(al, ar) => match store::look_node(room, b) {
-            Cell::Pair(bl, br) => Compared::Parts(al, ar, bl, br),
-            Cell::Atom => Compared::Told(false),
-        },
-        Cell::Atom => match store::look_node(room, b) {
-            Cell::Pair(_, _) => Compared::Told(false),
-            Cell::Atom => Compared::Told(same_atoms(form, room, a, b)),
-        },
+    match (store::look_node(room, a), store::look_node(room, b)) {
+        (Cell::Pair(al, ar), Cell::Pair(bl, br)) => Compared::Parts(al, ar, bl, br),
+        (Cell::Atom, Cell::Atom) => Compared::Told(same_atoms(form, room, a, b)),
+        _ => Compared::Told(false),
     }
 }
 
@@ -185,11 +161,7 @@ fn join(form: &[u8], room: &mut [u8], ch: Charges, a: usize, b: usize)
     requires { Alike form.now room.old ch a b }
     ensures { Grown form.now room.old room.new ch ch }
 {
-    if a < b {
-        store::join_node(form, room, ch, b, a);
-    } else {
-        store::join_node(form, room, ch, a, b);
-    }
+    store::join_node(form, room, ch, a.max(b), a.min(b));
 }
 
 fn prints_differ<'a>(form: &'a [u8], room: &'a [u8], ch: Charges, a: usize, b: usize) -> bool
@@ -225,16 +197,11 @@ fn equal_records(form: &[u8], room: &mut [u8], ch: Charges, a: usize, b: usize) 
             if prints_differ(form, room, ch, a, b) {
                 return false;
             }
-            if equal_node(form, room, ch, al, bl) {
-                if equal_node(form, room, ch, ar, br) {
-                    join(form, room, ch, a, b);
-                    true
-                } else {
-                    false
-                }
-            } else {
-                false
+            if equal_node(form, room, ch, al, bl) && equal_node(form, room, ch, ar, br) {
+                join(form, room, ch, a, b);
+                return true;
             }
+            false
         }
     }
 }

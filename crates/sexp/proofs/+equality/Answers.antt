@@ -3,15 +3,10 @@ use borrow.Author.Rules.{rules}
 use Rattle.store.proofs.Ready.{room}
 use Rattle.sexp.proofs.Equal as equal
 use Rattle.sexp.proofs.+equality.Goals as goal
+use Rattle.sexp.proofs.+equality.Goals.{equal_records-else-equal_node-via-then-equal_node+else-equal_node-2, equal_records-else-equal_node-via-else-equal_node}
 
 pub equal_node-returns-then-a-b : goal.equal_node-returns-then-a-b
 equal_node-returns-then-a-b t c = search equal.equal_same
-
-pub equal_node-equal_records-requires : goal.equal_node-equal_records-requires
-equal_node-equal_records-requires t c = (search equal.canon_falls, search rules)
-
-pub equal_node-returns : goal.equal_node-returns
-equal_node-returns t c = search equal.from_canon
 
 pub equal_records-compare_records-requires : goal.equal_records-compare_records-requires
 equal_records-compare_records-requires t c = (search room, search room)
@@ -34,8 +29,8 @@ equal_records-returns-in-Told t c = search equal.told
 pub equal_records-returns-then-equal_node-2 : goal.equal_records-returns-then-equal_node-2
 equal_records-returns-then-equal_node-2 t c = equal.joined_equal _ _ _ _ _ _ _ _ _ (search rules) c.compare_records.ensures _ c.requires.0 c.requires.1 _ _ c.equal_node.ensures (search rules) _ _ c.equal_node-then-equal_node.ensures _ c.join.ensures (search rules)
 
-pub equal_records-returns-else-equal_node-2 : goal.equal_records-returns-else-equal_node-2
-equal_records-returns-else-equal_node-2 t c = search equal.rights_differ
-
 pub equal_records-returns-else-equal_node : goal.equal_records-returns-else-equal_node
-equal_records-returns-else-equal_node t c = search equal.lefts_differ
+equal_records-returns-else-equal_node t c = elim c.else-equal_node.branch [
+  | equal_records-else-equal_node-via-then-equal_node+else-equal_node-2 w ↦ rw w.room-is (search equal.rights_differ)
+  | equal_records-else-equal_node-via-else-equal_node w ↦ rw w.room-is (search equal.lefts_differ)
+]

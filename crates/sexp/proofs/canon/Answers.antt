@@ -2,14 +2,8 @@
 use Rattle.sexp.proofs.Equal as equal
 use Rattle.sexp.proofs.canon.Goals as goal
 
-pub loop-m-init : goal.loop-m-init
-loop-m-init c = search equal.same_starts
-
 pub same_node-s-requires : goal.same_node-s-requires
 same_node-s-requires c = search equal.same_room
 
 pub loop-m-preserved : goal.loop-m-preserved
 loop-m-preserved c = search equal.same_turn
-
-pub returns-else-s-m : goal.returns-else-s-m
-returns-else-s-m c = search equal.same_ends

@@ -1,25 +1,22 @@
 -- enlist_node: an answer for each need; what carries weight stands in the laws.
+use Rattle.std.proofs.Common.{rules}
+use Rattle.std.proofs.lemmas.Result.{err_from_is_err_and}
 use Rattle.sexp.proofs.Lists as lists
-use borrow.Author.Rules.{rules}
 use Rattle.sexp.proofs.enlist_node.Goals as goal
 
-pub loop-i-init : goal.loop-i-init
-loop-i-init c = search lists.enlist_starts
-
-pub offset_bounds-items-i : goal.offset_bounds-items-i
-offset_bounds-items-i c = search (lists.enlist_index, rules)
-
-pub bounds-items-i : goal.bounds-items-i
-bounds-items-i c = search lists.enlist_index
+pub loop-item-init : goal.loop-item-init
+loop-item-init c = search (rules, lists.enlist_starts)
 
 pub pair_node-requires : goal.pair_node-requires
-pair_node-requires c = (search lists.enlist_item, search lists.enlist_rest)
+pair_node-requires c = let e = c.in-Some.ensures.steps in (rw c.from.ensures (search lists.enlist_item), c.loop-item.invariant.ready)
 
-pub loop-i-preserved : goal.loop-i-preserved
-loop-i-preserved c = search lists.enlist_turn
+pub loop-item-preserved : goal.loop-item-preserved
+loop-item-preserved c = let e = c.in-Some.ensures.steps in let b = rw c.from.ensures at c.pair_node.ensures in search (lists.enlist_turn, c.in_ok-made.was)
 
 pub returns-in_err-made : goal.returns-in_err-made
-returns-in_err-made c = search (rules, lists.enlist_over)
+returns-in_err-made c =
+    let e = c.in-Some.ensures.steps in let b = rw c.from.ensures at c.pair_node.ensures in
+    let p = err_from_is_err_and c.from_residual.result c.from_residual.ensures.1 in rw (p.1, p.2) (search (lists.enlist_over, c.in_err-made.was))
 
 pub returns : goal.returns
-returns c = search lists.enlist_ends
+returns c = let e = c.in-None.ensures.steps.0 in search lists.enlist_ends

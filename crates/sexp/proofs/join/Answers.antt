@@ -3,7 +3,4 @@ use Rattle.sexp.proofs.Equal as equal
 use Rattle.sexp.proofs.join.Goals as goal
 
 pub join_node-requires : goal.join_node-requires
-join_node-requires c = search equal.join_up
-
-pub join_node-requires-else-a-b : goal.join_node-requires-else-a-b
-join_node-requires-else-a-b c = search equal.join_down
+join_node-requires c = rw (c.max.ensures, c.min.ensures) (equal.join_ordered _ _ _ _ _ c.requires)

@@ -6,4 +6,4 @@ pub returns-in-Pair : goal.returns-in-Pair
 returns-in-Pair c = search tests.non_nil_pair
 
 pub returns-in-Atom : goal.returns-in-Atom
-returns-in-Atom c = search tests.non_nil_atom
+returns-in-Atom c = rw c.is_empty.ensures (search tests.non_nil_atom)

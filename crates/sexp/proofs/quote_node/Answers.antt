@@ -4,10 +4,10 @@ use Rattle.std.proofs.Common.{rules}
 use Rattle.sexp.proofs.quote_node.Goals as goal
 
 pub pair_node-requires : goal.pair_node-requires
-pair_node-requires c = (search lists.quote_one, search lists.quote_old)
+pair_node-requires c = (search (lists.quote_one, c.in_ok-one.was), search (lists.quote_old, c.in_ok-one.was))
 
 pub returns : goal.returns
-returns c = search lists.quote_made
+returns c = search (lists.quote_made, c.in_ok-one.was)
 
 pub returns-in_err-one : goal.returns-in_err-one
-returns-in_err-one c = search (rules, lists.quote_over)
+returns-in_err-one c = search (rules, lists.quote_over, c.in_err-one.was)
