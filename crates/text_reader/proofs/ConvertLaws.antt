@@ -25,8 +25,7 @@ use Rattle.text_reader.specs.declared.machine.Turn.TheVariants.{Goes, Done, Fail
 use Rattle.text_reader.specs.declared.convert.Converted.{Converted}
 use Rattle.text_reader.specs.declared.convert.Converted.TheVariants.{Form, Refused}
 use Rattle.text_reader.specs.declared.convert.Fault.TheVariants.{At, Nowhere, Long}
-use Rattle.text_reader.specs.declared.convert.Ending.{Ending}
-use Rattle.text_reader.specs.declared.convert.Ending.TheVariants.{Whole as whole-form, Stops}
+use Rattle.std.specs.Prelude.{Result, Ok, Err}
 use Rattle.text_reader.specs.Forms.{Emitted, Stands}
 use Rattle.text_reader.specs.Tokens.{spots_at, signs_at, OneToken, one_token}
 use Rattle.text_reader.specs.Turns.{stack_in, Fair, Comes, comes, GoesOn, EndsWell, NoText, TurnOk}
@@ -149,22 +148,19 @@ module _ (text fr fr' f f' : List ℕ) (r : Reading) (t : Turn) where
   unfolding TurnOk
   going_later q o e = let z : GoesOn text fr fr' f f' r q = (rw e at o) in z.later
 
-  pub going_done : (g : Grown) → TurnOk text fr fr' f f' r t → t ≡ Done g → Going text fr f r → EndingOk text f' (whole-form g)
+  pub going_done : (g : Grown) → TurnOk text fr fr' f f' r t → t ≡ Done g → Going text fr f r → EndingOk text f' (Ok g)
   unfolding TurnOk EndingOk
   going_done g o e w = let z : EndsWell text fr f f' r g = (rw e at o) in then z w.came
     where
       then : EndsWell text fr f f' r g → Comes (all_of text) text fr f r → Ends text f' g
       then z (comes l m j) = let (k, n) = z.so l m in ends l (j ∙ k) n
 
-  pub going_fails : TurnOk text fr fr' f f' r t → t ≡ Fails → Going text fr f r → EndingOk text f' (Stops r.at)
+  pub going_fails : TurnOk text fr fr' f f' r t → t ≡ Fails → Going text fr f r → EndingOk text f' (Err r.at)
   unfolding TurnOk EndingOk
   going_fails o e w = let z : NoText text fr r = (rw e at o) in record { within = w.fair.at; before = w.upto; is = then z w.came }
     where
       then : NoText text fr r → Comes (all_of text) text fr f r → all_of text ≡ stop NoParse (signs_at text r.at)
       then z (comes l m j) = j ∙ z.so l
-
-pub going_never : (text fr f : List ℕ) (r : Reading) → Going text fr f r → length text < r.at → EndingOk text f (Stops r.at)
-going_never text fr f r w h = let z : r.at ≤ length text = w.fair.at in absurd (omega arith)
 
 pub going_less : (text fr fr' f f' : List ℕ) (r q : Reading) (t : Turn) (m : ℕ) → TurnOk text fr fr' f f' r t → t ≡ Goes q → Going text fr f r → length text + 1 - r.at ≡ m → length text + 1 - q.at < m
 going_less text fr fr' f f' r q t m o e w i =
@@ -174,30 +170,30 @@ going_less text fr fr' f f' r q t m o e w i =
 
 -- ---- what comes of the machine's end
 
-module _ (text f : List ℕ) (x : Ending) (h : length text ≤ text_limit) (o : EndingOk text f x) where
-  pub whole_converted : (g : Grown) (y : Converted) → y ≡ finished g.over g.len → x ≡ whole-form g → ConvertedOk text f y
+module _ (text f : List ℕ) (x : Result Grown ℕ) (h : length text ≤ text_limit) (o : EndingOk text f x) where
+  pub whole_converted : (g : Grown) (y : Converted) → y ≡ finished g.over g.len → x ≡ Ok g → ConvertedOk text f y
   unfolding EndingOk
   whole_converted g y i e = let z : Ends text f g = (rw e at o) in subst (λ (v : Converted). ConvertedOk text f v) (sym i) (then z)
     where
       then : Ends text f g → ConvertedOk text f (finished g.over g.len)
       then (ends l j m) = ended text h l f g g.over refl j m
 
-  pub stops_converted : (at : ℕ) → x ≡ Stops at → ConvertedOk text f (Refused NoParse)
+  pub stops_converted : (at : ℕ) → x ≡ Err at → ConvertedOk text f (Refused NoParse)
   unfolding EndingOk ConvertedOk
   stops_converted at e = let z : StopsAt text at = (rw e at o) in not_read text h (signs_at text at) (read_none text (signs_at text at) z.is)
 
-  pub stops_within : (at : ℕ) → x ≡ Stops at → at ≤ length text
+  pub stops_within : (at : ℕ) → x ≡ Err at → at ≤ length text
   unfolding EndingOk
   stops_within at e = let z : StopsAt text at = (rw e at o) in z.within
 
-  pub whole_parses : (g : Grown) → x ≡ whole-form g → FaultOk text Nowhere
+  pub whole_parses : (g : Grown) → x ≡ Ok g → FaultOk text Nowhere
   unfolding EndingOk FaultOk
   whole_parses g e = let z : Ends text f g = (rw e at o) in then z
     where
       then : Ends text f g → Located text none
       then (ends l j m) = let (t, ts, i, k) = read_whole text l j in record { short = h; is = none_read text t ts i }
 
-  pub stops_there : (at p : ℕ) → p ≡ first_place (spots_at text at) (length text) → x ≡ Stops at → FaultOk text (At p)
+  pub stops_there : (at p : ℕ) → p ≡ first_place (spots_at text at) (length text) → x ≡ Err at → FaultOk text (At p)
   unfolding EndingOk FaultOk
   stops_there at p i e =
       let z : StopsAt text at = (rw e at o) in

@@ -1,5 +1,5 @@
 -- What a text is promised to be converted to: bytes that are read as the text is, or the refusal of its reading.
-use Rattle.std.specs.Prelude.{ℕ, ◌≤◌, ◌<◌, ◌≡◌, List, [], ◌++◌, Bool, true, false, length, take}
+use Rattle.std.specs.Prelude.{ℕ, ◌≤◌, ◌<◌, ◌≡◌, List, [], ◌++◌, Bool, true, false, Result, Ok, Err, length, take}
 use Rattle.std.proofs.Math.Option.{Option, none, some}
 use Rattle.refusals.specs.declared.Refusal.{Refusal}
 use Rattle.refusals.specs.declared.Refusal.TheVariants.{FormLong, NoParse}
@@ -17,8 +17,6 @@ use Rattle.text_reader.specs.declared.convert.Converted.{Converted}
 use Rattle.text_reader.specs.declared.convert.Converted.TheVariants.{Form, Refused}
 use Rattle.text_reader.specs.declared.convert.Fault.{Fault}
 use Rattle.text_reader.specs.declared.convert.Fault.TheVariants.{At, Nowhere, Long}
-use Rattle.text_reader.specs.declared.convert.Ending.{Ending}
-use Rattle.text_reader.specs.declared.convert.Ending.TheVariants.{Whole as whole-form, Stops}
 use Rattle.text_reader.specs.Forms.{Emitted}
 use Rattle.text_reader.specs.Tokens.{spots_at, signs_at}
 use Rattle.text_reader.specs.Machine.{run}
@@ -72,9 +70,10 @@ pub record StopsAt (text : List ℕ) (at : ℕ) : Type 0 where
   pub before : Reached text at
   pub is : all_of text ≡ stop NoParse (signs_at text at)
 
-unfoldable pub EndingOk : List ℕ → List ℕ → Ending → Type 0
-EndingOk text f (whole-form g) = Ends text f g
-EndingOk text f (Stops at) = StopsAt text at
+-- nothing more is wanted, with a form; or the next token from a place on may not stand there
+unfoldable pub EndingOk : List ℕ → List ℕ → Result Grown ℕ → Type 0
+EndingOk text f (Ok g) = Ends text f g
+EndingOk text f (Err at) = StopsAt text at
 
 abbrev pub begun : Reading
 begun = record { at = 0; want = Whole; depth = 0; grown = record { len = 0; over = false } }
