@@ -21,7 +21,6 @@ use Rattle.notation.specs.Texts.{head_in, is_one, after, place_after}
 use Rattle.decimals.specs.declared.Spelled.{Spelled}
 use Rattle.decimals.specs.declared.Spelled.TheVariants.{From, Long, Nothing as not-spelled}
 use Rattle.decimals.specs.Spelling.{Spells, SpellsLong, spells_long, SpelledOk, Spelling}
-use Rattle.text_reader.specs.declared.emit.Grown.{Grown}
 use Rattle.text_reader.specs.declared.machine.Want.{Want}
 use Rattle.text_reader.specs.declared.machine.Want.TheVariants.{Whole, First, More, Last, Bracket, Nothing}
 use Rattle.text_reader.specs.declared.machine.Reading.{Reading}
@@ -29,7 +28,7 @@ use Rattle.std.specs.Prelude.{Option, Some, None}
 use Rattle.text_reader.specs.declared.machine.Turn.TheVariants.{Goes, Done}
 use Rattle.text_reader.specs.declared.machine.Opened.{Opened}
 use Rattle.text_reader.specs.declared.machine.Wanted.{Wanted}
-use Rattle.text_reader.specs.Forms.{Emitted, Emits, pair_byte}
+use Rattle.text_reader.specs.Forms.{Within, Emitted, Emits, pair_byte}
 use Rattle.text_reader.specs.Machine.{Next, on, no, want_of, back, on_opening, pop, on_closing, on_atom, on_word, place_of}
 use Rattle.text_reader.specs.Turns.{opening_of, wanted_after, stack_in, leads, StepOk, LeadsOn, leads_on, PassOk, AtomOk, LongOk, WordOk, PopOk, dotted, end_turn, turn_of}
 use Rattle.text_reader.proofs.EmitLaws.{emits_none, part_over}
@@ -106,7 +105,7 @@ opening_is (Last p) st f = ap (λ (l : List ℕ). on (First p) (3 ∷ st) l) (sy
 opening_is Bracket st f = refl
 opening_is Nothing st f = refl
 
-pub open_done : (fr f f' : List ℕ) (r : Reading) (g : Grown) (o : Opened) (next : ℕ) → Some o ≡ opening_of r.want → Emits (pair_byte o.pair) f f' r.grown g → r.depth < length fr
+pub open_done : (fr f f' : List ℕ) (r : Reading) (g : Option ℕ) (o : Opened) (next : ℕ) → Some o ≡ opening_of r.want → Emits (pair_byte o.pair) f f' r.grown g → r.depth < length fr
     → StepOk on_opening fr (set fr r.depth o.after) f f' r next (Some (record { at = next; want = o.within; depth = r.depth + 1; grown = g }))
 unfolding StepOk opened
 open_done fr f f' r g o next i e h = record {
@@ -129,11 +128,11 @@ open_stuck fr f r next s i j =
 
 -- ---- a closing bracket
 
-pub pop_none : (fr : List ℕ) (depth : ℕ) (g : Grown) (next : ℕ) → depth ≡ 0 → PopOk fr depth g next None
+pub pop_none : (fr : List ℕ) (depth : ℕ) (g : Option ℕ) (next : ℕ) → depth ≡ 0 → PopOk fr depth g next None
 unfolding PopOk pop stack_in
 pop_none fr depth g next h = record { so = λ e. rw (h, stack_in) refl }
 
-pub pop_done : (fr : List ℕ) (depth : ℕ) (g : Grown) (next : ℕ) (w : Want) → (depth ≡ 0 → ⊥) → w ≡ want_of (get_or fr (depth - 1) 0)
+pub pop_done : (fr : List ℕ) (depth : ℕ) (g : Option ℕ) (next : ℕ) (w : Want) → (depth ≡ 0 → ⊥) → w ≡ want_of (get_or fr (depth - 1) 0)
     → PopOk fr depth g next (Some (record { at = next; want = w; depth = depth - 1; grown = g }))
 unfolding PopOk pop stack_in
 pop_done fr depth g next w h e = record {
@@ -146,26 +145,26 @@ pop_done fr depth g next w h e = record {
 }
 
 -- what was popped, once the list's end is emitted
-popped : (fr f f' : List ℕ) (r : Reading) (next : ℕ) (g : Grown) (more : List ℕ) (s : Option Reading) → Emits more f f' r.grown g
+popped : (fr f f' : List ℕ) (r : Reading) (next : ℕ) (g : Option ℕ) (more : List ℕ) (s : Option Reading) → Emits more f f' r.grown g
     → ((e : List ℕ) → on_closing r.want (stack_in fr r.depth) e ≡ pop (stack_in fr r.depth) (e ++ more)) → PopOk fr r.depth g next s → StepOk on_closing fr fr f f' r next s
 unfolding StepOk PopOk
 popped fr f f' r next g more (Some q) e i h = record {
   at = h.at;
   deep = let z : q.depth ≤ r.depth = h.deep in omega arith;
-  within = subst (λ (x : Grown). x.len ≤ form_limit) (sym h.grown) e.within;
+  within = subst (λ (x : Option ℕ). Within x) (sym h.grown) e.within;
   frames = refl;
   long = e.long;
-  so = λ l m. leads (l ++ more) (subst (λ (x : Grown). Emitted (l ++ more) f' x) (sym h.grown) (e.so l m)) (i l ∙ h.so (l ++ more));
+  so = λ l m. leads (l ++ more) (subst (λ (x : Option ℕ). Emitted (l ++ more) f' x) (sym h.grown) (e.so l m)) (i l ∙ h.so (l ++ more));
 }
 popped fr f f' r next g more None e i h = record { so = λ l. i l ∙ h.so (l ++ more) }
 
-pub close_part : (fr f f' : List ℕ) (r : Reading) (next : ℕ) (g : Grown) (s : Option Reading) → PopOk fr r.depth g next s → Emits (0x80 ∷ []) f f' r.grown g
+pub close_part : (fr f f' : List ℕ) (r : Reading) (next : ℕ) (g : Option ℕ) (s : Option Reading) → PopOk fr r.depth g next s → Emits (0x80 ∷ []) f f' r.grown g
     → ((p : Place) × (r.want ≡ First p)) ⊎ ((p : Place) × (r.want ≡ More p)) → StepOk on_closing fr fr f f' r next s
 unfolding on_closing
 close_part fr f f' r next g s h e (inl i) = popped fr f f' r next g (0x80 ∷ []) s e (λ l. ap (λ (w : Want). on_closing w (stack_in fr r.depth) l) i.1) h
 close_part fr f f' r next g s h e (inr i) = popped fr f f' r next g (0x80 ∷ []) s e (λ l. ap (λ (w : Want). on_closing w (stack_in fr r.depth) l) i.1) h
 
-pub close_bracket : (fr f : List ℕ) (r : Reading) (next : ℕ) (s : Option Reading) → PopOk fr r.depth r.grown next s → r.want ≡ Bracket → r.grown.len ≤ form_limit → StepOk on_closing fr fr f f r next s
+pub close_bracket : (fr f : List ℕ) (r : Reading) (next : ℕ) (s : Option Reading) → PopOk fr r.depth r.grown next s → r.want ≡ Bracket → Within r.grown → StepOk on_closing fr fr f f r next s
 unfolding on_closing
 close_bracket fr f r next s h i k =
     popped fr f f r next r.grown [] s (emits_none k) (λ l. ap (λ (w : Want). on_closing w (stack_in fr r.depth) l) i ∙ ap (λ (m : List ℕ). pop (stack_in fr r.depth) m) (sym (append-nil l))) h
@@ -201,7 +200,7 @@ atom_is Nothing b st f = refl
 atom_as : (b : List ℕ) (w : Want) (o : Option Wanted) (one : Bool) (st f : List ℕ) → o ≡ wanted_after w one → one ≡ is_byte 1 b → on_atom w b st f ≡ atomic o b st f
 atom_as b w o one st f i k = atom_is w b st f ∙ ap (λ (x : Option Wanted). atomic x b st f) (sym (i ∙ ap (λ (x : Bool). wanted_after w x) k))
 
-pub atom_done : (b f f' : List ℕ) (r : Reading) (g : Grown) (o : Wanted) (one : Bool) (next : ℕ) → Some o ≡ wanted_after r.want one → Emits (pair_byte o.pair ++ write_atom b) f f' r.grown g
+pub atom_done : (b f f' : List ℕ) (r : Reading) (g : Option ℕ) (o : Wanted) (one : Bool) (next : ℕ) → Some o ≡ wanted_after r.want one → Emits (pair_byte o.pair ++ write_atom b) f f' r.grown g
     → one ≡ is_byte 1 b → AtomOk b f f' r next (Some (record { at = next; want = o.want; depth = r.depth; grown = g }))
 unfolding AtomOk PassOk atomic
 atom_done b f f' r g o one next i e k = record {
@@ -222,11 +221,8 @@ atom_stuck b f r one next s i k j =
 long_other : (b : List ℕ) → form_limit < length b → false ≡ is_byte 1 b
 long_other b h = no_byte b (λ e. omega arith)
 
-pub long_done : (r : Reading) (o : Wanted) (next : ℕ) → Some o ≡ wanted_after r.want false → r.grown.len ≤ 8192
-    → LongOk r next (Some (record { at = next; want = o.want; depth = r.depth; grown = record { len = r.grown.len; over = true } }))
-long_done r o next i l = record {
-  so = λ b f h. atom_done b f f r (record { len = r.grown.len; over = true }) o false next i (part_over o.pair b h l) (long_other b h);
-}
+pub long_done : (r : Reading) (o : Wanted) (next : ℕ) → Some o ≡ wanted_after r.want false → LongOk r next (Some (record { at = next; want = o.want; depth = r.depth; grown = None }))
+long_done r o next i = record { so = λ b f h. atom_done b f f r None o false next i (part_over o.pair b h) (long_other b h) }
 
 pub long_stuck : (r : Reading) (next : ℕ) (s : Option Reading) → None ≡ wanted_after r.want false → s ≡ None → LongOk r next s
 long_stuck r next s i j = record { so = λ b f h. atom_stuck b f r false next s i (long_other b h) j }
@@ -282,7 +278,7 @@ word_sub v s s' at p x k i = let y : Spells (word_bytes p v) s' at = (rw i at k.
 pub dot_more : (r : Reading) (next : ℕ) (p : Place) → r.want ≡ More p → Some (record { at = next; want = Last p; depth = r.depth; grown = r.grown }) ≡ dotted r.want r next
 dot_more r next p i = sym (ap (λ (w : Want). dotted w r next) i)
 
-pub end_nothing : (w : Want) (g : Grown) → w ≡ Nothing → Done g ≡ end_turn w g
+pub end_nothing : (w : Want) (g : Option ℕ) → w ≡ Nothing → Done g ≡ end_turn w g
 end_nothing w g i = sym (ap (λ (x : Want). end_turn x g) i)
 
 -- the room from a place on, as a part of it

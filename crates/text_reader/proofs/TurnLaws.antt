@@ -20,6 +20,7 @@ use Rattle.text_reader.specs.declared.machine.Reading.{Reading}
 use Rattle.std.specs.Prelude.{Option, Some, None}
 use Rattle.text_reader.specs.declared.machine.Turn.{Turn}
 use Rattle.text_reader.specs.declared.machine.Turn.TheVariants.{Fails}
+use Rattle.text_reader.specs.Forms.{Within}
 use Rattle.text_reader.specs.Tokens.{between, spots_at, signs_at, one_token, Signed, Worded, InQuotes, Ended, Broken, TokenOk}
 use Rattle.text_reader.specs.Machine.{Next, on, no, on_opening, on_closing, on_dot, on_atom, on_word, on_token, at_end, run}
 use Rattle.text_reader.specs.Turns.{stack_in, Leads, leads, StepOk, LeadsOn, leads_on, PassOk, AtomOk, WordOk, dotted, end_turn, turn_of, Fair, Comes, comes, NoText, TurnOk}
@@ -41,7 +42,7 @@ pass_step fr f f' k r next (Some q) h = record {
     led {o} (leads_on e m i) = leads e m (i ∙ ap (λ (d : ℕ). on q.want (stack_in fr d) e) (sym h.deep))
 pass_step fr f f' k r next None h = record { so = λ e. h.so (stack_in fr r.depth) e }
 
-dot_step : (fr f : List ℕ) (r : Reading) (next : ℕ) (w : Want) → r.want ≡ w → r.grown.len ≤ form_limit → StepOk on_dot fr fr f f r next (dotted w r next)
+dot_step : (fr f : List ℕ) (r : Reading) (next : ℕ) (w : Want) → r.want ≡ w → Within r.grown → StepOk on_dot fr fr f f r next (dotted w r next)
 unfolding StepOk on_dot
 dot_step fr f r next (More p) i h = record {
   at = refl;

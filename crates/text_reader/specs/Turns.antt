@@ -6,7 +6,6 @@ use Rattle.meaning.specs.Meter.{Out, done, stop}
 use Rattle.notation.specs.declared.Place.TheVariants.{Operator}
 use Rattle.notation.specs.Texts.{head_in, place_after}
 use Rattle.notation.specs.Grammar.{Token}
-use Rattle.text_reader.specs.declared.emit.Grown.{Grown}
 use Rattle.text_reader.specs.declared.machine.Want.{Want}
 use Rattle.text_reader.specs.declared.machine.Want.TheVariants.{Whole, First, More, Last, Bracket, Nothing}
 use Rattle.text_reader.specs.declared.machine.Reading.{Reading}
@@ -14,7 +13,7 @@ use Rattle.text_reader.specs.declared.machine.Turn.{Turn}
 use Rattle.text_reader.specs.declared.machine.Turn.TheVariants.{Goes, Done, Fails}
 use Rattle.text_reader.specs.declared.machine.Opened.{Opened}
 use Rattle.text_reader.specs.declared.machine.Wanted.{Wanted}
-use Rattle.text_reader.specs.Forms.{Emitted}
+use Rattle.text_reader.specs.Forms.{Within, Emitted}
 use Rattle.text_reader.specs.Tokens.{signs_at, OneToken}
 use Rattle.text_reader.specs.Machine.{Next, on, no, back, pop, on_atom, on_word, run}
 
@@ -53,7 +52,7 @@ pub data Leads (o : Next) (fr f : List ℕ) (q : Reading) : Type 0 where
 pub record Moved (k : Want → List ℕ → List ℕ → Next) (fr fr' f f' : List ℕ) (r : Reading) (next : ℕ) (q : Reading) : Type 0 where
   pub at : q.at ≡ next
   pub deep : q.depth ≤ r.depth + 1
-  pub within : q.grown.len ≤ form_limit
+  pub within : Within q.grown
   pub frames : length fr' ≡ length fr
   pub long : length f' ≡ length f
   pub so : (e : List ℕ) → Emitted e f r.grown → Leads (k r.want (stack_in fr r.depth) e) fr' f' q
@@ -73,7 +72,7 @@ pub data LeadsOn (o : Next) (st f : List ℕ) (q : Reading) : Type 0 where
 pub record Passed (k : Want → List ℕ → List ℕ → Next) (f f' : List ℕ) (r : Reading) (next : ℕ) (q : Reading) : Type 0 where
   pub at : q.at ≡ next
   pub deep : q.depth ≡ r.depth
-  pub within : q.grown.len ≤ form_limit
+  pub within : Within q.grown
   pub long : length f' ≡ length f
   pub so : (st e : List ℕ) → Emitted e f r.grown → LeadsOn (k r.want st e) st f' q
 
@@ -99,7 +98,7 @@ unfolding PassOk on_word
 WordOk v f f' r next s = PassOk (λ w. on_word w v) f f' r next s
 
 -- the innermost list is closed, with g in the form
-pub record Popped (fr : List ℕ) (depth : ℕ) (g : Grown) (next : ℕ) (q : Reading) : Type 0 where
+pub record Popped (fr : List ℕ) (depth : ℕ) (g : Option ℕ) (next : ℕ) (q : Reading) : Type 0 where
   pub at : q.at ≡ next
   pub deep : q.depth ≤ depth
   pub grown : q.grown ≡ g
@@ -108,7 +107,7 @@ pub record Popped (fr : List ℕ) (depth : ℕ) (g : Grown) (next : ℕ) (q : Re
 pub record NotPopped (fr : List ℕ) (depth : ℕ) : Type 0 where
   pub so : (e : List ℕ) → pop (stack_in fr depth) e ≡ no
 
-unfoldable pub PopOk : List ℕ → ℕ → Grown → ℕ → Option Reading → Type 0
+unfoldable pub PopOk : List ℕ → ℕ → Option ℕ → ℕ → Option Reading → Type 0
 PopOk fr depth g next (Some q) = Popped fr depth g next q
 PopOk fr depth g next None = NotPopped fr depth
 
@@ -124,7 +123,7 @@ dotted Nothing r next = None
 -- ---- turns: a token of the text
 
 -- at the text's end
-abbrev pub end_turn : Want → Grown → Turn
+abbrev pub end_turn : Want → Option ℕ → Turn
 end_turn Nothing g = Done g
 end_turn Whole g = Fails
 end_turn (First p) g = Fails
@@ -147,7 +146,7 @@ pub record Fair (text fr f : List ℕ) (r : Reading) : Type 0 where
   pub deep : r.depth ≤ r.at
   pub short : length text ≤ length fr
   pub room : form_limit ≤ length f
-  pub within : r.grown.len ≤ form_limit
+  pub within : Within r.grown
 
 -- o is what is come to from q on
 pub data Comes (o : Out (List Token) (List ℕ)) (text fr f : List ℕ) (q : Reading) : Type 0 where
@@ -160,7 +159,7 @@ pub record GoesOn (text fr fr' f f' : List ℕ) (r q : Reading) : Type 0 where
   pub so : (e : List ℕ) → Emitted e f r.grown → Comes (from_here text fr r e) text fr' f' q
 
 -- the text ends well
-pub record EndsWell (text fr f f' : List ℕ) (r : Reading) (g : Grown) : Type 0 where
+pub record EndsWell (text fr f f' : List ℕ) (r : Reading) (g : Option ℕ) : Type 0 where
   pub so : (e : List ℕ) → Emitted e f r.grown → (from_here text fr r e ≡ done e []) × Emitted e f' g
 
 -- the next token, or the end, may not stand there

@@ -2,9 +2,8 @@
 ghost use Rattle.std.specs.Prelude.{◌≡◌, ◌≤◌, length};
 ghost use Rattle.meaning.specs.Limits.{room_least, form_limit};
 ghost use Rattle.notation.specs.Texts.{text_limit};
-ghost use Rattle.text_reader.specs.Converts.{begun, finished, EndingOk, ConvertedOk, FaultOk};
+ghost use Rattle.text_reader.specs.Converts.{begun, EndingOk, ConvertedOk, FaultOk};
 
-use crate::emit::Grown;
 use crate::machine::{Reading, Turn, Want, take_token};
 use crate::scan::next_place;
 use refusals::Refusal;
@@ -33,31 +32,17 @@ fn start() -> Reading
         at: 0,
         want: Want::Whole,
         depth: 0,
-        grown: Grown {
-            len: 0,
-            over: false,
-        },
+        grown: Some(0),
     }
 }
 
-// Refusal 2 comes after 15.
-fn finish(g: Grown) -> Converted
-    ensures { result ≡ finished g.over g.len }
-{
-    if g.over {
-        Converted::Refused(Refusal::FormLong)
-    } else {
-        Converted::Form(g.len)
-    }
-}
-
-// Token by token: the form, where nothing more is wanted at the end; or the place from which on the next token may not stand.
+// Token by token: how many bytes the form has (none where it is too long), where nothing more is wanted at the end; or the place from which on the next token may not stand.
 fn take_tokens(
     text: &[u8],
     frames: &mut [u8],
     room: &mut [u8],
     form: &mut [u8],
-) -> Result<Grown, usize>
+) -> Result<Option<usize>, usize>
     requires { (length text.now ≤ text_limit) × (text_limit ≤ length frames.old) × (room_least ≤ length room.old) × (form_limit ≤ length form.old) }
     ensures { EndingOk text.now form.new result }
 {
@@ -78,7 +63,7 @@ fn take_tokens(
 }
 
 // The whole machine. What is wanted after each open list stands here and not with the callers, whose frames stay while a form is worked.
-fn convert(text: &[u8], room: &mut [u8], form: &mut [u8]) -> Result<Grown, usize>
+fn convert(text: &[u8], room: &mut [u8], form: &mut [u8]) -> Result<Option<usize>, usize>
     requires { (length text.now ≤ text_limit) × (room_least ≤ length room.old) × (form_limit ≤ length form.old) }
     ensures { EndingOk text.now form.new result }
 {
@@ -95,8 +80,10 @@ pub fn form_of_text(text: &[u8], room: &mut [u8], form: &mut [u8]) -> Converted
     if TEXT < text.len() {
         return Converted::Refused(Refusal::TextLong);
     }
+    // Refusal 2 comes after 15.
     match convert(text, room, form) {
-        Ok(g) => finish(g),
+        Ok(Some(n)) => Converted::Form(n),
+        Ok(None) => Converted::Refused(Refusal::FormLong),
         Err(_) => Converted::Refused(Refusal::NoParse),
     }
 }

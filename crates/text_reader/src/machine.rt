@@ -2,10 +2,11 @@
 ghost use Rattle.std.specs.Prelude.{◌≡◌, ◌≤◌, ◌<◌, length, drop};
 ghost use Rattle.meaning.specs.Limits.{room_least};
 ghost use Rattle.notation.specs.Texts.{text_limit};
+ghost use Rattle.text_reader.specs.Forms.{Within};
 ghost use Rattle.text_reader.specs.Machine.{want_of, back, on_opening, on_closing, place_of};
 ghost use Rattle.text_reader.specs.Turns.{opening_of, wanted_after, dotted, end_turn, turn_of, StepOk, AtomOk, LongOk, WordOk, PopOk, Fair, TurnOk};
 
-use crate::emit::{Grown, emit_byte, emit_pair, emit_part};
+use crate::emit::{emit_byte, emit_pair, emit_part};
 use crate::scan::{Token, next_token};
 use crate::words::word_bytes;
 use decimals::Spelled;
@@ -23,20 +24,21 @@ pub(crate) enum Want {
     Nothing,
 }
 
-// Between two tokens: where the next stands, what is wanted, how many lists are open, the form so far.
+// Between two tokens: where the next stands, what is wanted, how many lists are open, how many bytes stand in the form so far (or none is
+// said: more would have to stand than may).
 #[derive(Clone, Copy)]
 pub(crate) struct Reading {
     pub at: usize,
     pub want: Want,
     pub depth: usize,
-    pub grown: Grown,
+    pub grown: Option<usize>,
 }
 
 // After a token or the text's end.
 #[derive(Clone, Copy)]
 pub(crate) enum Turn {
     Goes(Reading),
-    Done(Grown),
+    Done(Option<usize>),
     Fails,
 }
 
@@ -101,7 +103,7 @@ fn opened_in(w: Want) -> Option<Opened>
 }
 
 fn on_open(frames: &mut [u8], form: &mut [u8], r: Reading, next: usize) -> Option<Reading>
-    requires { (r.depth < length frames.old) × (r.depth < 65536) × (8192 ≤ length form.old) × (r.grown.len ≤ 8192) }
+    requires { (r.depth < length frames.old) × (r.depth < 65536) × (8192 ≤ length form.old) × Within r.grown }
     ensures { StepOk on_opening frames.old frames.new form.old form.new r next result }
 {
     let opened = opened_in(r.want)?;
@@ -115,7 +117,7 @@ fn on_open(frames: &mut [u8], form: &mut [u8], r: Reading, next: usize) -> Optio
 }
 
 // The innermost list is closed, with g in the form.
-fn pop(frames: &[u8], depth: usize, grown: Grown, next: usize) -> Option<Reading>
+fn pop(frames: &[u8], depth: usize, grown: Option<usize>, next: usize) -> Option<Reading>
     requires { depth ≤ length frames.now }
     ensures { PopOk frames.now depth grown next result }
 {
@@ -131,7 +133,7 @@ fn pop(frames: &[u8], depth: usize, grown: Grown, next: usize) -> Option<Reading
 }
 
 fn on_close(frames: &[u8], form: &mut [u8], r: Reading, next: usize) -> Option<Reading>
-    requires { (r.depth ≤ length frames.now) × (8192 ≤ length form.old) × (r.grown.len ≤ 8192) }
+    requires { (r.depth ≤ length frames.now) × (8192 ≤ length form.old) × Within r.grown }
     ensures { StepOk on_closing frames.now frames.now form.old form.new r next result }
 {
     match r.want {
@@ -180,7 +182,7 @@ fn after_part(w: Want, one: bool) -> Option<Wanted>
 
 // An atom of these bytes.
 fn on_atom(form: &mut [u8], r: Reading, b: &[u8], next: usize) -> Option<Reading>
-    requires { (8192 ≤ length form.old) × (r.grown.len ≤ 8192) }
+    requires { (8192 ≤ length form.old) × Within r.grown }
     ensures { AtomOk b.now form.old form.new r next result }
 {
     let wanted = after_part(r.want, is_one(b))?;
@@ -194,17 +196,13 @@ fn on_atom(form: &mut [u8], r: Reading, b: &[u8], next: usize) -> Option<Reading
 
 // An atom of more bytes than a form may have.
 fn on_long(r: Reading, next: usize) -> Option<Reading>
-    requires { r.grown.len ≤ 8192 }
     ensures { LongOk r next result }
 {
     let wanted = after_part(r.want, false)?;
     Some(Reading {
         at: next,
         want: wanted.want,
-        grown: Grown {
-            over: true,
-            ..r.grown
-        },
+        grown: None,
         ..r
     })
 }
@@ -222,14 +220,14 @@ fn place_of(w: Want) -> Place
 
 // An atom of the bytes that stand from at on in the room.
 fn on_spelled(form: &mut [u8], room: &[u8], at: usize, r: Reading, next: usize) -> Option<Reading>
-    requires { (at ≤ length room.now) × (8192 ≤ length form.old) × (r.grown.len ≤ 8192) }
+    requires { (at ≤ length room.now) × (8192 ≤ length form.old) × Within r.grown }
     ensures { AtomOk (drop at room.now) form.old form.new r next result }
 {
     on_atom(form, r, &room[at..], next)
 }
 
 fn on_word(v: &[u8], room: &mut [u8], form: &mut [u8], r: Reading, next: usize) -> Option<Reading>
-    requires { (length v.now < length room.old) × (8192 ≤ length form.old) × (r.grown.len ≤ 8192) }
+    requires { (length v.now < length room.old) × (8192 ≤ length form.old) × Within r.grown }
     ensures { WordOk v.now form.old form.new r next result }
 {
     match word_bytes(place_of(r.want), v, room) {
