@@ -18,19 +18,18 @@ use Rattle.form.specs.Spans.{stops}
 use Rattle.notation.specs.Texts.{text_limit}
 use Rattle.notation.specs.Grammar.{Token, Spot, spot, spots, signs, tokens, whole, tree_of_text, read_text}
 use Rattle.notation.specs.Faults.{first_place, place_of_last, fault}
-use Rattle.text_reader.specs.declared.emit.Grown.{Grown}
 use Rattle.text_reader.specs.declared.machine.Reading.{Reading}
 use Rattle.text_reader.specs.declared.machine.Turn.{Turn}
 use Rattle.text_reader.specs.declared.machine.Turn.TheVariants.{Goes, Done, Fails}
 use Rattle.text_reader.specs.declared.convert.Converted.{Converted}
 use Rattle.text_reader.specs.declared.convert.Converted.TheVariants.{Form, Refused}
 use Rattle.text_reader.specs.declared.convert.Fault.TheVariants.{At, Nowhere, Long}
-use Rattle.text_reader.specs.declared.convert.Ending.{Ending}
-use Rattle.text_reader.specs.declared.convert.Ending.TheVariants.{Whole as whole-form, Stops}
-use Rattle.text_reader.specs.Forms.{Emitted, Stands}
+use Rattle.std.specs.Prelude.{Result, Ok, Err, Some, None}
+use Rattle.std.specs.Prelude.{Option as Maybe}
+use Rattle.text_reader.specs.Forms.{Emitted, Holds, Stands}
 use Rattle.text_reader.specs.Tokens.{spots_at, signs_at, OneToken, one_token}
 use Rattle.text_reader.specs.Turns.{stack_in, Fair, Comes, comes, GoesOn, EndsWell, NoText, TurnOk}
-use Rattle.text_reader.specs.Converts.{NotConverted, ConvertedOk, Located, FaultOk, all_of, Ends, ends, Reached, reached, StopsAt, EndingOk, begun, finished}
+use Rattle.text_reader.specs.Converts.{NotConverted, ConvertedOk, Located, FaultOk, all_of, Ends, ends, Reached, reached, StopsAt, EndingOk, begun}
 use Rattle.text_reader.proofs.EmitLaws.{nothing_emitted}
 use Rattle.text_reader.proofs.Grows.{onward, grows}
 use Rattle.text_reader.proofs.First.{as_definition}
@@ -67,15 +66,18 @@ module _ (text : List ℕ) (short : length text ≤ text_limit) where
   long_read u e h = stops (record { left = e; units = u }) (rw (leb_no (length e) form_limit h, read_form) refl)
 
   -- the form is whole, or too long
-  ended : (e f : List ℕ) (g : Grown) (b : Bool) → g.over ≡ b → all_of text ≡ done e [] → Emitted e f g → ConvertedOk text f (finished b g.len)
-  unfolding ConvertedOk
-  ended e f g false i h m =
+  ended : (e f : List ℕ) (n : ℕ) → all_of text ≡ done e [] → Emitted e f (Some n) → ConvertedOk text f (Form n)
+  unfolding ConvertedOk Holds
+  ended e f n h m =
       let (t, ts, j, k) = read_whole text e h in
-      let z : Stands e f g.len = m.fits i in
+      let z : Stands e f n = m.holds in
       record { within = m.within; is = λ u. read_as u t ts j ∙ ap (λ (l : List ℕ). read_form l u) (k ∙ sym z.front) }
-  ended e f g true i h m =
+
+  ended_long : (e f : List ℕ) → all_of text ≡ done e [] → Emitted e f None → ConvertedOk text f (Refused FormLong)
+  unfolding ConvertedOk Holds
+  ended_long e f h m =
       let (t, ts, j, k) = read_whole text e h in
-      record { is = λ u. subst (λ (o : Out Read Tree). spans.Stops o FormLong) (sym (read_as u t ts j ∙ ap (λ (l : List ℕ). read_form l u) k)) (long_read u e (m.over i)) }
+      record { is = λ u. subst (λ (o : Out Read Tree). spans.Stops o FormLong) (sym (read_as u t ts j ∙ ap (λ (l : List ℕ). read_form l u) k)) (long_read u e m.holds) }
 
 pub too_long : (text f : List ℕ) → text_limit < length text → ConvertedOk text f (Refused TextLong)
 unfolding ConvertedOk read_text
@@ -149,22 +151,19 @@ module _ (text fr fr' f f' : List ℕ) (r : Reading) (t : Turn) where
   unfolding TurnOk
   going_later q o e = let z : GoesOn text fr fr' f f' r q = (rw e at o) in z.later
 
-  pub going_done : (g : Grown) → TurnOk text fr fr' f f' r t → t ≡ Done g → Going text fr f r → EndingOk text f' (whole-form g)
+  pub going_done : (g : Maybe ℕ) → TurnOk text fr fr' f f' r t → t ≡ Done g → Going text fr f r → EndingOk text f' (Ok g)
   unfolding TurnOk EndingOk
   going_done g o e w = let z : EndsWell text fr f f' r g = (rw e at o) in then z w.came
     where
       then : EndsWell text fr f f' r g → Comes (all_of text) text fr f r → Ends text f' g
       then z (comes l m j) = let (k, n) = z.so l m in ends l (j ∙ k) n
 
-  pub going_fails : TurnOk text fr fr' f f' r t → t ≡ Fails → Going text fr f r → EndingOk text f' (Stops r.at)
+  pub going_fails : TurnOk text fr fr' f f' r t → t ≡ Fails → Going text fr f r → EndingOk text f' (Err r.at)
   unfolding TurnOk EndingOk
   going_fails o e w = let z : NoText text fr r = (rw e at o) in record { within = w.fair.at; before = w.upto; is = then z w.came }
     where
       then : NoText text fr r → Comes (all_of text) text fr f r → all_of text ≡ stop NoParse (signs_at text r.at)
       then z (comes l m j) = j ∙ z.so l
-
-pub going_never : (text fr f : List ℕ) (r : Reading) → Going text fr f r → length text < r.at → EndingOk text f (Stops r.at)
-going_never text fr f r w h = let z : r.at ≤ length text = w.fair.at in absurd (omega arith)
 
 pub going_less : (text fr fr' f f' : List ℕ) (r q : Reading) (t : Turn) (m : ℕ) → TurnOk text fr fr' f f' r t → t ≡ Goes q → Going text fr f r → length text + 1 - r.at ≡ m → length text + 1 - q.at < m
 going_less text fr fr' f f' r q t m o e w i =
@@ -174,30 +173,37 @@ going_less text fr fr' f f' r q t m o e w i =
 
 -- ---- what comes of the machine's end
 
-module _ (text f : List ℕ) (x : Ending) (h : length text ≤ text_limit) (o : EndingOk text f x) where
-  pub whole_converted : (g : Grown) (y : Converted) → y ≡ finished g.over g.len → x ≡ whole-form g → ConvertedOk text f y
+module _ (text f : List ℕ) (x : Result (Maybe ℕ) ℕ) (h : length text ≤ text_limit) (o : EndingOk text f x) where
+  pub whole_converted : (n : ℕ) (g : Maybe ℕ) → x ≡ Ok g → g ≡ Some n → ConvertedOk text f (Form n)
   unfolding EndingOk
-  whole_converted g y i e = let z : Ends text f g = (rw e at o) in subst (λ (v : Converted). ConvertedOk text f v) (sym i) (then z)
+  whole_converted n g e i = let y : Ends text f g = (rw e at o) in let z : Ends text f (Some n) = (rw i at y) in then z
     where
-      then : Ends text f g → ConvertedOk text f (finished g.over g.len)
-      then (ends l j m) = ended text h l f g g.over refl j m
+      then : Ends text f (Some n) → ConvertedOk text f (Form n)
+      then (ends l j m) = ended text h l f n j m
 
-  pub stops_converted : (at : ℕ) → x ≡ Stops at → ConvertedOk text f (Refused NoParse)
+  pub long_converted : (g : Maybe ℕ) → x ≡ Ok g → g ≡ None → ConvertedOk text f (Refused FormLong)
+  unfolding EndingOk
+  long_converted g e i = let y : Ends text f g = (rw e at o) in let z : Ends text f None = (rw i at y) in then z
+    where
+      then : Ends text f None → ConvertedOk text f (Refused FormLong)
+      then (ends l j m) = ended_long text h l f j m
+
+  pub stops_converted : (at : ℕ) → x ≡ Err at → ConvertedOk text f (Refused NoParse)
   unfolding EndingOk ConvertedOk
   stops_converted at e = let z : StopsAt text at = (rw e at o) in not_read text h (signs_at text at) (read_none text (signs_at text at) z.is)
 
-  pub stops_within : (at : ℕ) → x ≡ Stops at → at ≤ length text
+  pub stops_within : (at : ℕ) → x ≡ Err at → at ≤ length text
   unfolding EndingOk
   stops_within at e = let z : StopsAt text at = (rw e at o) in z.within
 
-  pub whole_parses : (g : Grown) → x ≡ whole-form g → FaultOk text Nowhere
+  pub whole_parses : (g : Maybe ℕ) → x ≡ Ok g → FaultOk text Nowhere
   unfolding EndingOk FaultOk
   whole_parses g e = let z : Ends text f g = (rw e at o) in then z
     where
       then : Ends text f g → Located text none
       then (ends l j m) = let (t, ts, i, k) = read_whole text l j in record { short = h; is = none_read text t ts i }
 
-  pub stops_there : (at p : ℕ) → p ≡ first_place (spots_at text at) (length text) → x ≡ Stops at → FaultOk text (At p)
+  pub stops_there : (at p : ℕ) → p ≡ first_place (spots_at text at) (length text) → x ≡ Err at → FaultOk text (At p)
   unfolding EndingOk FaultOk
   stops_there at p i e =
       let z : StopsAt text at = (rw e at o) in
@@ -206,11 +212,3 @@ module _ (text f : List ℕ) (x : Ending) (h : length text ≤ text_limit) (o : 
 pub too_long_to_see : (text : List ℕ) → text_limit < length text → FaultOk text Long
 unfolding FaultOk
 too_long_to_see text h = record { long = h }
-
--- ---- finish
-
-pub finish_over : (b : Bool) (n : ℕ) → b ≡ true → Refused FormLong ≡ finished b n
-finish_over b n i = rw i refl
-
-pub finish_whole : (b : Bool) (n : ℕ) → b ≡ false → Form n ≡ finished b n
-finish_whole b n i = rw i refl

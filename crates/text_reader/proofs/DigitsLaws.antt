@@ -10,8 +10,9 @@ use lib.Seq.{drop-cons, take_all, take-suc-set, drop-set-add}
 use Rattle.notation.specs.Words.{hex_value, hex_bytes, and_then}
 use Rattle.decimals.specs.declared.Spelled.TheVariants.{From, Nothing}
 use Rattle.decimals.specs.Spelling.{SpelledOk, Spelling}
-use Rattle.text_reader.specs.Digits.{below, hex_pair}
-use Rattle.text_reader.proofs.HexLaws.{below_yes, below_no}
+use Rattle.std.specs.Prelude.{Some, None}
+use Rattle.std.specs.Prelude.{Option as Maybe}
+use Rattle.text_reader.specs.Digits.{found, hex_pair}
 
 -- bytes before what there is
 pub onto : List ℕ → Option (List ℕ) → Option (List ℕ)
@@ -102,9 +103,10 @@ module _ {w s₀ s : List ℕ} {n from i : ℕ} (t : Hexing w s₀ s n from i) w
       let l : i < length (drop from s) = omega (arith, length-drop from s, t.room, t.long) in
       rw (add-one, drop-set-add from s i b) (take-suc-set (drop from s) i b l)
 
-  pub hex_turn : {b : ℕ} → i < n → hex_pair (get_or w (2 + 2 * i) 0) (get_or w (3 + 2 * i) 0) ≡ below 256 b → b ≤ 255 → Hexing w s₀ (set s (from + i) b) n from (i + 1)
-  hex_turn {b} h e l =
-      let f : hex_pair (get_or w (2 + 2 * i) 0) (get_or w (3 + 2 * i) 0) ≡ some b = e ∙ below_yes 256 b (omega arith) in
+  pub hex_turn : {r : Maybe ℕ} {b : ℕ} → i < n → hex_pair (get_or w (2 + 2 * i) 0) (get_or w (3 + 2 * i) 0) ≡ found r → r ≡ Some b → Hexing w s₀ (set s (from + i) b) n from (i + 1)
+  unfolding found
+  hex_turn {r} {b} h e l =
+      let f : hex_pair (get_or w (2 + 2 * i) 0) (get_or w (3 + 2 * i) 0) ≡ some b = e ∙ ap found l in
       record {
         within = omega arith;
         room = t.room;
@@ -116,10 +118,10 @@ module _ {w s₀ s : List ℕ} {n from i : ℕ} (t : Hexing w s₀ s n from i) w
             ∙ ap (λ (bs : List ℕ). onto bs (hex_bytes (drop (2 + 2 * (i + 1)) w))) (sym (one_more b h));
       }
 
-  pub hex_wrong : {b : ℕ} → i < n → hex_pair (get_or w (2 + 2 * i) 0) (get_or w (3 + 2 * i) 0) ≡ below 256 b → 255 < b → Spelling (hex_bytes (drop 2 w)) s₀ s Nothing
-  unfolding SpelledOk onto
-  hex_wrong {b} h e l =
-      let f : hex_pair (get_or w (2 + 2 * i) 0) (get_or w (3 + 2 * i) 0) ≡ none = e ∙ below_no 256 b (omega arith) in
+  pub hex_wrong : {r : Maybe ℕ} → i < n → hex_pair (get_or w (2 + 2 * i) 0) (get_or w (3 + 2 * i) 0) ≡ found r → r ≡ None → Spelling (hex_bytes (drop 2 w)) s₀ s Nothing
+  unfolding SpelledOk onto found
+  hex_wrong {r} h e l =
+      let f : hex_pair (get_or w (2 + 2 * i) 0) (get_or w (3 + 2 * i) 0) ≡ none = e ∙ ap found l in
       record {
         long = t.long;
         ok = t.is

@@ -9,40 +9,6 @@ use Rattle.notation.specs.declared.Kind.TheVariants.{Blank, Opens, Closes, Quote
 use Rattle.notation.specs.Grammar.{kind_of}
 use Rattle.text_reader.specs.Tokens.{is_plain, is_blank}
 
-module _ {c : ℕ} where
-  pub kind_space : c ≡ 0x20 → Blank ≡ kind_of c
-  unfolding kind_of
-  kind_space e = rw e
-
-  pub kind_opens : c ≡ 0x28 → Opens ≡ kind_of c
-  unfolding kind_of
-  kind_opens e = rw e
-
-  pub kind_closes : c ≡ 0x29 → Closes ≡ kind_of c
-  unfolding kind_of
-  kind_closes e = rw e
-
-  pub kind_quotes : c ≡ 0x22 → Quotes ≡ kind_of c
-  unfolding kind_of
-  kind_quotes e = rw e
-
-  pub kind_tab : c ≡ 0x09 → Blank ≡ kind_of c
-  unfolding kind_of
-  kind_tab e = rw e
-
-  pub kind_lf : c ≡ 0x0a → Blank ≡ kind_of c
-  unfolding kind_of
-  kind_lf e = rw e
-
-  pub kind_cr : c ≡ 0x0d → Blank ≡ kind_of c
-  unfolding kind_of
-  kind_cr e = rw e
-
-  pub kind_plain : (c ≡ 0x20 → ⊥) → (c ≡ 0x28 → ⊥) → (c ≡ 0x29 → ⊥) → (c ≡ 0x22 → ⊥) → (c ≡ 0x09 → ⊥) → (c ≡ 0x0a → ⊥) → (c ≡ 0x0d → ⊥) → Plain ≡ kind_of c
-  unfolding kind_of
-  kind_plain h i j k l m n =
-      rw (ne_eqb c 0x20 h, ne_eqb c 0x28 i, ne_eqb c 0x29 j, ne_eqb c 0x22 k, ne_eqb c 0x09 l, ne_eqb c 0x0a m, ne_eqb c 0x0d n, kind_of)
-
 -- what the two tests say of a kind
 pub plain_is : (k : Kind) → is_plain k ≡ true → k ≡ Plain
 unfolding is_plain
@@ -66,38 +32,28 @@ module _ (c : ℕ) {k : Kind} (e : k ≡ kind_of c) where
   unfolding is_blank
   blank_blank f = ap is_blank (sym f ∙ e)
 
-  pub blank_plain : k ≡ Plain → false ≡ is_blank (kind_of c)
+  pub blank_else : (k ≡ Blank → ⊥) → false ≡ is_blank (kind_of c)
   unfolding is_blank
-  blank_plain f = ap is_blank (sym f ∙ e)
-
-  pub blank_opens : k ≡ Opens → false ≡ is_blank (kind_of c)
-  unfolding is_blank
-  blank_opens f = ap is_blank (sym f ∙ e)
-
-  pub blank_closes : k ≡ Closes → false ≡ is_blank (kind_of c)
-  unfolding is_blank
-  blank_closes f = ap is_blank (sym f ∙ e)
-
-  pub blank_quotes : k ≡ Quotes → false ≡ is_blank (kind_of c)
-  unfolding is_blank
-  blank_quotes f = ap is_blank (sym f ∙ e)
-
-  pub plain_blank : k ≡ Blank → false ≡ is_plain (kind_of c)
-  unfolding is_plain
-  plain_blank f = ap is_plain (sym f ∙ e)
+  blank_else n = go k n ∙ ap is_blank e
+    where
+      go : (k : Kind) → (k ≡ Blank → ⊥) → false ≡ is_blank k
+      go Blank n = absurd (n refl)
+      go Plain n = refl
+      go Opens n = refl
+      go Closes n = refl
+      go Quotes n = refl
 
   pub plain_plain : k ≡ Plain → true ≡ is_plain (kind_of c)
   unfolding is_plain
   plain_plain f = ap is_plain (sym f ∙ e)
 
-  pub plain_opens : k ≡ Opens → false ≡ is_plain (kind_of c)
+  pub plain_else : (k ≡ Plain → ⊥) → false ≡ is_plain (kind_of c)
   unfolding is_plain
-  plain_opens f = ap is_plain (sym f ∙ e)
-
-  pub plain_closes : k ≡ Closes → false ≡ is_plain (kind_of c)
-  unfolding is_plain
-  plain_closes f = ap is_plain (sym f ∙ e)
-
-  pub plain_quotes : k ≡ Quotes → false ≡ is_plain (kind_of c)
-  unfolding is_plain
-  plain_quotes f = ap is_plain (sym f ∙ e)
+  plain_else n = go k n ∙ ap is_plain e
+    where
+      go : (k : Kind) → (k ≡ Plain → ⊥) → false ≡ is_plain k
+      go Plain n = absurd (n refl)
+      go Blank n = refl
+      go Opens n = refl
+      go Closes n = refl
+      go Quotes n = refl

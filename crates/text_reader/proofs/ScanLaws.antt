@@ -1,8 +1,10 @@
 -- The scanner: what each return and each loop needs. Assumes nothing.
 use Prim.Native.Nat.{ℕ, suc, ◌+◌, ◌-◌, ◌≤◌, ◌<◌}
+use mathlib.Core.Logic.{◌⊎◌, inl, inr}
 use mathlib.Core.Path.{◌≡◌, refl, sym, ◌∙◌, ap, subst}
 use mathlib.Core.List.{List, [], ◌∷◌, ◌++◌, append_assoc, append-nil}
 use mathlib.Core.Bool.{Bool, true, false, not}
+use Rattle.std.specs.Prelude.{Result, Ok, Err}
 use native.Mathlib.Omega.{arith}
 use borrow.Author.Tests.{ne_eqb, eq-eqb, le-leb, lt-leb}
 use borrow.Author.Tests as tests
@@ -16,9 +18,7 @@ use Rattle.notation.specs.Faults.{first_place}
 use Rattle.text_reader.proofs.KindLaws.{plain_is, blank_is}
 use Rattle.text_reader.specs.declared.scan.Token.{Token}
 use Rattle.text_reader.specs.declared.scan.Token.TheVariants.{End, Open, Close, Dot, Word, Quoted, Wrong}
-use Rattle.text_reader.specs.declared.scan.Closed.{Closed}
-use Rattle.text_reader.specs.declared.scan.Closed.TheVariants.{At, Bad, Never}
-use Rattle.text_reader.specs.Tokens.{between, spots_at, is_plain, is_blank, Signed, Worded, InQuotes, Ended, Broken, TokenOk, Skipped, WordEnds, QuoteEnds, QuoteBad, QuoteOpen, ClosedOk, Whole}
+use Rattle.text_reader.specs.Tokens.{between, spots_at, is_plain, is_blank, Signed, Worded, InQuotes, Ended, Broken, TokenOk, Skipped, WordEnds, QuoteEnds, QuoteWrong, ClosedOk, Whole}
 
 -- ---- one byte of a text
 
@@ -135,8 +135,10 @@ module _ {text : List ℕ} {at i : ℕ} (s : Skipping text at i) where
   pub skip_found : {b : Bool} → i < length text → b ≡ is_blank (kind_of (get_or text i 0)) → not b ≡ true → Skipped text at i
   skip_found {b} h f n = record { after = s.after; within = s.within; is = s.is; stops = λ l. sym f ∙ tests.not-true b n }
 
-  pub skip_all : length text ≤ i → Skipped text at i
-  skip_all h = record { after = s.after; within = s.within; is = s.is; stops = λ l. absurd (omega arith) }
+  pub skip_all : length text ≤ i → Skipped text at (length text)
+  skip_all h =
+      let z : i ≡ length text = omega (arith, s.within) in
+      record { after = omega (arith, s.after); within = omega arith; is = s.is ∙ ap (spots_at text) z; stops = λ l. absurd (omega arith) }
 
 -- ---- word_end
 
@@ -181,8 +183,10 @@ module _ {text : List ℕ} {at i : ℕ} (s : Going text at i) where
         ∙ ap (λ (t : List ℕ). ending (w ++ between text at i) i (spots_from t i [])) (sym (here text i h));
   }
 
-  pub word_all : length text ≤ i → WordEnds text at i
-  word_all h = record { after = s.after; within = s.within; is = λ w. s.is w ∙ last_word (w ++ between text at i) (drop i text) i (past text i h) }
+  pub word_all : length text ≤ i → WordEnds text at (length text)
+  word_all h =
+      let z : i ≡ length text = omega (arith, s.within) in
+      subst (λ (n : ℕ). WordEnds text at n) z (record { after = s.after; within = s.within; is = λ w. s.is w ∙ last_word (w ++ between text at i) (drop i text) i (past text i h) })
 
 -- ---- quote_end
 
@@ -213,38 +217,43 @@ pub record Quoting (text : List ℕ) (at i : ℕ) : Type 0 where
   pub within : i ≤ length text
   pub is : (q : ℕ) → quoted_from (drop at text) at q [] ≡ quoted_from (drop i text) i q (between text at i)
 
-pub quote_starts : {text : List ℕ} {at : ℕ} → at ≤ length text → Quoting text at at
-quote_starts {text} {at} h = record { after = omega arith; within = h; is = λ q. ap (quoted_from (drop at text) at q) (sym (between_none text at)) }
+pub quote_starts : {text : List ℕ} (q : ℕ) → q < length text → Quoting text (q + 1) (q + 1)
+quote_starts {text} q h = record { after = omega arith; within = omega arith; is = λ p. ap (quoted_from (drop (q + 1) text) (q + 1) p) (sym (between_none text (q + 1))) }
 
 module _ {text : List ℕ} {at i : ℕ} (s : Quoting text at i) where
   quote_here : i < length text → (q : ℕ) → quoted_from (drop at text) at q [] ≡ quoted_from (get_or text i 0 ∷ drop (i + 1) text) i q (between text at i)
   quote_here h q = s.is q ∙ ap (λ (t : List ℕ). quoted_from t i q (between text at i)) (here text i h)
 
-  pub quote_turn : i < length text → (get_or text i 0 ≡ 0x22 → ⊥) → 0x20 ≤ get_or text i 0 → get_or text i 0 ≤ 0x7e → Quoting text at (i + 1)
+  pub quote_turn : i < length text → (get_or text i 0 ≡ 0x22 → ⊥) → 0x20 ≤ get_or text i 0 → get_or text i 0 < 0x7f → Quoting text at (i + 1)
   quote_turn h e l m = record {
     after = omega (arith, s.after);
     within = omega arith;
     is = λ q.
         quote_here h q
-        ∙ quote_more (get_or text i 0) (drop (i + 1) text) i q (between text at i) e l m
+        ∙ quote_more (get_or text i 0) (drop (i + 1) text) i q (between text at i) e l (omega arith)
         ∙ ap (quoted_from (drop (i + 1) text) (i + 1) q) (sym (between_more text at i s.after h));
   }
 
-  pub quote_found : i < length text → get_or text i 0 ≡ 0x22 → ClosedOk text at (At i)
-  unfolding ClosedOk
-  quote_found h e = record { after = s.after; within = h; is = λ q. quote_here h q ∙ quote_closes (get_or text i 0) (drop (i + 1) text) i q (between text at i) e }
+  quote_found_at : i < length text → get_or text i 0 ≡ 0x22 → QuoteEnds text at i
+  quote_found_at h e = record { after = s.after; within = h; is = λ q. quote_here h q ∙ quote_closes (get_or text i 0) (drop (i + 1) text) i q (between text at i) e }
 
-  pub quote_too_low : i < length text → (get_or text i 0 ≡ 0x22 → ⊥) → get_or text i 0 < 0x20 → ClosedOk text at (Bad i)
+-- the quote at q goes on at i
+module _ {text : List ℕ} (q : ℕ) {i : ℕ} (s : Quoting text (q + 1) i) where
+  pub quote_found : i < length text → get_or text i 0 ≡ 0x22 → ClosedOk text q (Ok i)
   unfolding ClosedOk
-  quote_too_low h e l = record { is = λ q. quote_here h q ∙ quote_low (get_or text i 0) (drop (i + 1) text) i q (between text at i) e l }
+  quote_found h e = quote_found_at s h e
 
-  pub quote_too_high : i < length text → (get_or text i 0 ≡ 0x22 → ⊥) → 0x20 ≤ get_or text i 0 → 0x7e < get_or text i 0 → ClosedOk text at (Bad i)
+  pub quote_too_low : i < length text → (get_or text i 0 ≡ 0x22 → ⊥) → get_or text i 0 < 0x20 → ClosedOk text q (Err i)
   unfolding ClosedOk
-  quote_too_high h e l m = record { is = λ q. quote_here h q ∙ quote_high (get_or text i 0) (drop (i + 1) text) i q (between text at i) e l m }
+  quote_too_low h e l = record { is = quote_here s h q ∙ quote_low (get_or text i 0) (drop (i + 1) text) i q (between text (q + 1) i) e l }
 
-  pub quote_open : length text ≤ i → ClosedOk text at Never
+  pub quote_too_high : i < length text → (get_or text i 0 ≡ 0x22 → ⊥) → 0x7e < get_or text i 0 → ClosedOk text q (Err i)
   unfolding ClosedOk
-  quote_open h = record { is = λ q. s.is q ∙ ap (λ (t : List ℕ). quoted_from t i q (between text at i)) (past text i h) ∙ quote_none i q (between text at i) }
+  quote_too_high h e m = record { is = quote_here s h q ∙ quote_high (get_or text i 0) (drop (i + 1) text) i q (between text (q + 1) i) e (omega arith) m }
+
+  pub quote_open : length text ≤ i → ClosedOk text q (Err q)
+  unfolding ClosedOk
+  quote_open h = record { is = s.is q ∙ ap (λ (t : List ℕ). quoted_from t i q (between text (q + 1) i)) (past text i h) ∙ quote_none i q (between text (q + 1) i) }
 
 -- ---- word_from
 
@@ -350,11 +359,11 @@ module _ (text : List ℕ) (at : ℕ) {k : Kind} (e : k ≡ kind_of (get_or text
         ∙ ap (λ (w : List ℕ). ending w to (spots_at text to)) (sym (between_before text at to (omega (arith, s.after)) h));
   }
 
-module _ (text : List ℕ) (at : ℕ) (q : Closed) (s : ClosedOk text (at + 1) q) (h : at < length text) (e : kind_of (get_or text at 0) ≡ Quotes) where
+module _ (text : List ℕ) (at : ℕ) (q : Result ℕ ℕ) (s : ClosedOk text at q) (h : at < length text) (e : kind_of (get_or text at 0) ≡ Quotes) where
   before_quote : at ≡ at + 1 - 1
   before_quote = omega arith
 
-  pub here_quoted : {to : ℕ} → q ≡ At to → TokenOk text at (Quoted (at + 1) to)
+  pub here_quoted : {to : ℕ} → q ≡ Ok to → TokenOk text at (Quoted (at + 1) to)
   unfolding TokenOk ClosedOk
   here_quoted {to} f =
       let c : QuoteEnds text (at + 1) to = rw f at s in
@@ -365,13 +374,9 @@ module _ (text : List ℕ) (at : ℕ) (q : Closed) (s : ClosedOk text (at + 1) q
         is = first_quotes text at h e ∙ c.is at ∙ ap (λ (i : ℕ). spot (quoted (between text (at + 1) to)) i ∷ spots_at text (to + 1)) before_quote;
       }
 
-  pub here_bad : {i : ℕ} → q ≡ Bad i → TokenOk text at (Wrong i)
+  pub here_wrong : {i : ℕ} → q ≡ Err i → TokenOk text at (Wrong i)
   unfolding TokenOk ClosedOk
-  here_bad {i} f = let c : QuoteBad text (at + 1) i = rw f at s in record { is = first_quotes text at h e ∙ c.is at }
-
-  pub here_open : q ≡ Never → TokenOk text at (Wrong at)
-  unfolding TokenOk ClosedOk
-  here_open f = let c : QuoteOpen text (at + 1) = rw f at s in record { is = first_quotes text at h e ∙ c.is at }
+  here_wrong {i} f = let c : QuoteWrong text at i = rw f at s in record { is = first_quotes text at h e ∙ c.is }
 
 -- separators before a token do not matter
 later : (text : List ℕ) (at i : ℕ) → Skipped text at i → (t : Token) → TokenOk text i t → TokenOk text at t
@@ -405,17 +410,12 @@ module _ (text : List ℕ) (at : ℕ) (tk : Token) (o : TokenOk text at tk) wher
   stands : (t : List Spot) → spots_at text at ≡ t → first_place (spots_at text at) (length text) ≡ first_place t (length text)
   stands t i = ap (λ (ss : List Spot). first_place ss (length text)) i
 
-  pub place_open : (next : ℕ) → tk ≡ Open next → next - 1 ≡ first_place (spots_at text at) (length text)
+  -- a token of one sign
+  pub place_sign : (next : ℕ) → (tk ≡ Open next) ⊎ ((tk ≡ Close next) ⊎ (tk ≡ Dot next)) → next - 1 ≡ first_place (spots_at text at) (length text)
   unfolding TokenOk first_place
-  place_open next e = let z : Signed text at next opening = (rw e at o) in sym (stands _ z.is)
-
-  pub place_close : (next : ℕ) → tk ≡ Close next → next - 1 ≡ first_place (spots_at text at) (length text)
-  unfolding TokenOk first_place
-  place_close next e = let z : Signed text at next closing = (rw e at o) in sym (stands _ z.is)
-
-  pub place_dot : (next : ℕ) → tk ≡ Dot next → next - 1 ≡ first_place (spots_at text at) (length text)
-  unfolding TokenOk first_place
-  place_dot next e = let z : Signed text at next dot = (rw e at o) in sym (stands _ z.is)
+  place_sign next (inl e) = let z : Signed text at next opening = (rw e at o) in sym (stands _ z.is)
+  place_sign next (inr (inl e)) = let z : Signed text at next closing = (rw e at o) in sym (stands _ z.is)
+  place_sign next (inr (inr e)) = let z : Signed text at next dot = (rw e at o) in sym (stands _ z.is)
 
   pub place_word : (from to : ℕ) → tk ≡ Word from to → from ≡ first_place (spots_at text at) (length text)
   unfolding TokenOk first_place
@@ -434,17 +434,11 @@ module _ (text : List ℕ) (at : ℕ) (tk : Token) (o : TokenOk text at tk) wher
   place_end e = let z : Ended text at = (rw e at o) in sym (stands _ z.is)
 
   -- there is a byte before what follows a token
-  pub open_some : (next : ℕ) → tk ≡ Open next → 1 ≤ next
+  pub sign_some : (next : ℕ) → (tk ≡ Open next) ⊎ ((tk ≡ Close next) ⊎ (tk ≡ Dot next)) → 1 ≤ next
   unfolding TokenOk
-  open_some next e = let z : Signed text at next opening = (rw e at o) in omega (arith, z.after)
-
-  pub close_some : (next : ℕ) → tk ≡ Close next → 1 ≤ next
-  unfolding TokenOk
-  close_some next e = let z : Signed text at next closing = (rw e at o) in omega (arith, z.after)
-
-  pub dot_some : (next : ℕ) → tk ≡ Dot next → 1 ≤ next
-  unfolding TokenOk
-  dot_some next e = let z : Signed text at next dot = (rw e at o) in omega (arith, z.after)
+  sign_some next (inl e) = let z : Signed text at next opening = (rw e at o) in omega (arith, z.after)
+  sign_some next (inr (inl e)) = let z : Signed text at next closing = (rw e at o) in omega (arith, z.after)
+  sign_some next (inr (inr e)) = let z : Signed text at next dot = (rw e at o) in omega (arith, z.after)
 
   pub quoted_some : (from to : ℕ) → tk ≡ Quoted from to → 1 ≤ from
   unfolding TokenOk

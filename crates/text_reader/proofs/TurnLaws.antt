@@ -17,19 +17,19 @@ use Rattle.text_reader.specs.declared.scan.Token.TheVariants.{End, Open, Close, 
 use Rattle.text_reader.specs.declared.machine.Want.{Want}
 use Rattle.text_reader.specs.declared.machine.Want.TheVariants.{Whole, First, More, Last, Bracket, Nothing}
 use Rattle.text_reader.specs.declared.machine.Reading.{Reading}
-use Rattle.text_reader.specs.declared.machine.Step.{Step}
-use Rattle.text_reader.specs.declared.machine.Step.TheVariants.{On, NoParse}
+use Rattle.std.specs.Prelude.{Option, Some, None}
 use Rattle.text_reader.specs.declared.machine.Turn.{Turn}
 use Rattle.text_reader.specs.declared.machine.Turn.TheVariants.{Fails}
+use Rattle.text_reader.specs.Forms.{Within}
 use Rattle.text_reader.specs.Tokens.{between, spots_at, signs_at, one_token, Signed, Worded, InQuotes, Ended, Broken, TokenOk}
 use Rattle.text_reader.specs.Machine.{Next, on, no, on_opening, on_closing, on_dot, on_atom, on_word, on_token, at_end, run}
 use Rattle.text_reader.specs.Turns.{stack_in, Leads, leads, StepOk, LeadsOn, leads_on, PassOk, AtomOk, WordOk, dotted, end_turn, turn_of, Fair, Comes, comes, NoText, TurnOk}
 
 -- ---- steps that look at no open list
 
-pass_step : (fr f f' : List ℕ) (k : Want → List ℕ → List ℕ → Next) (r : Reading) (next : ℕ) (s : Step) → PassOk k f f' r next s → StepOk k fr fr f f' r next s
+pass_step : (fr f f' : List ℕ) (k : Want → List ℕ → List ℕ → Next) (r : Reading) (next : ℕ) (s : Option Reading) → PassOk k f f' r next s → StepOk k fr fr f f' r next s
 unfolding PassOk StepOk
-pass_step fr f f' k r next (On q) h = record {
+pass_step fr f f' k r next (Some q) h = record {
   at = h.at;
   deep = let z : q.depth ≡ r.depth = h.deep in omega arith;
   within = h.within;
@@ -40,9 +40,9 @@ pass_step fr f f' k r next (On q) h = record {
   where
     led : {o : Next} → LeadsOn o (stack_in fr r.depth) f' q → Leads o fr f' q
     led {o} (leads_on e m i) = leads e m (i ∙ ap (λ (d : ℕ). on q.want (stack_in fr d) e) (sym h.deep))
-pass_step fr f f' k r next NoParse h = record { so = λ e. h.so (stack_in fr r.depth) e }
+pass_step fr f f' k r next None h = record { so = λ e. h.so (stack_in fr r.depth) e }
 
-dot_step : (fr f : List ℕ) (r : Reading) (next : ℕ) (w : Want) → r.want ≡ w → r.grown.len ≤ form_limit → StepOk on_dot fr fr f f r next (dotted w r next)
+dot_step : (fr f : List ℕ) (r : Reading) (next : ℕ) (w : Want) → r.want ≡ w → Within r.grown → StepOk on_dot fr fr f f r next (dotted w r next)
 unfolding StepOk on_dot
 dot_step fr f r next (More p) i h = record {
   at = refl;
@@ -83,10 +83,10 @@ unfolding stopped
 stuck text fr r ts e i h = ap (λ (us : List Sign). run us r.want (stack_in fr r.depth) e) i ∙ h ∙ ap stopped (sym i)
 
 module _ (text fr fr' f f' : List ℕ) (r : Reading) (next : ℕ) (k : Want → List ℕ → List ℕ → Next) (sign : Sign) (place : ℕ) where
-  token_turn : (s : Step) → ((w : Want) (st e : List ℕ) → on_token sign w st e ≡ k w st e) → r.at < next → next ≤ length text → spots_at text r.at ≡ spot sign place ∷ spots_at text next
+  token_turn : (s : Option Reading) → ((w : Want) (st e : List ℕ) → on_token sign w st e ≡ k w st e) → r.at < next → next ≤ length text → spots_at text r.at ≡ spot sign place ∷ spots_at text next
       → StepOk k fr fr' f f' r next s → Fair text fr f r → TurnOk text fr fr' f f' r (turn_of s)
   unfolding StepOk TurnOk
-  token_turn (On q) same l m i h fair = record {
+  token_turn (Some q) same l m i h fair = record {
     fair = record {
       at = let z : q.at ≡ next = h.at in omega arith;
       deep = let z : q.at ≡ next = h.at in let y : q.depth ≤ r.depth + 1 = h.deep in omega (arith, fair.deep);
@@ -104,13 +104,13 @@ module _ (text fr fr' f f' : List ℕ) (r : Reading) (next : ℕ) (k : Want → 
           (ap (λ (ts : List Sign). run ts r.want (stack_in fr r.depth) e) (signs_one text r.at next sign place i)
           ∙ run_on sign (signs_at text next) r.want q.want (stack_in fr r.depth) (stack_in fr' q.depth) e e' (same r.want (stack_in fr r.depth) e ∙ j)
           ∙ ap (λ (n : ℕ). run (signs_at text n) q.want (stack_in fr' q.depth) e') (sym h.at))
-  token_turn NoParse same l m i h fair = record {
+  token_turn None same l m i h fair = record {
     so = λ e. stuck text fr r (sign ∷ signs_at text next) e (signs_one text r.at next sign place i) (run_no sign (signs_at text next) r.want (stack_in fr r.depth) e (same r.want (stack_in fr r.depth) e ∙ h.so e));
   }
 
 -- ---- the returns
 
-module _ (text fr fr' f f' : List ℕ) (r : Reading) (tk : Token) (s : Step) (t : Turn) where
+module _ (text fr fr' f f' : List ℕ) (r : Reading) (tk : Token) (s : Option Reading) (t : Turn) where
   turn_as : t ≡ turn_of s → TurnOk text fr fr' f f' r (turn_of s) → TurnOk text fr fr' f f' r t
   turn_as i h = subst (λ (x : Turn). TurnOk text fr fr' f f' r x) (sym i) h
 
@@ -122,14 +122,14 @@ module _ (text fr fr' f f' : List ℕ) (r : Reading) (tk : Token) (s : Step) (t 
   unfolding TokenOk on_token
   close_turn next i h o e fair = let z : Signed text r.at next closing = (rw e at o) in turn_as i (token_turn text fr fr' f f' r next on_closing closing (next - 1) s (λ w st l. refl) z.after z.within z.is h fair)
 
-module _ (text fr f f' : List ℕ) (r : Reading) (tk : Token) (s : Step) (t : Turn) where
+module _ (text fr f f' : List ℕ) (r : Reading) (tk : Token) (s : Option Reading) (t : Turn) where
   pub dot_turn : (next : ℕ) → t ≡ turn_of s → s ≡ dotted r.want r next → TokenOk text r.at tk → tk ≡ Dot next → Fair text fr f r → TurnOk text fr fr f f r t
   unfolding TokenOk on_token
   dot_turn next i j o e fair =
       let z : Signed text r.at next dot = (rw e at o) in
       turn_as text fr fr f f r tk s t i
       (token_turn text fr fr f f r next on_dot dot (next - 1) s (λ w st l. refl) z.after z.within z.is
-      (subst (λ (x : Step). StepOk on_dot fr fr f f r next x) (sym j) (dot_step fr f r next r.want refl fair.within)) fair)
+      (subst (λ (x : Option Reading). StepOk on_dot fr fr f f r next x) (sym j) (dot_step fr f r next r.want refl fair.within)) fair)
 
   pub word_turn : (from to : ℕ) (v : List ℕ) → t ≡ turn_of s → WordOk v f f' r to s → v ≡ between text from to → TokenOk text r.at tk → tk ≡ Word from to → Fair text fr f r → TurnOk text fr fr f f' r t
   unfolding TokenOk on_token WordOk

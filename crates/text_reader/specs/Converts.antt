@@ -1,5 +1,6 @@
 -- What a text is promised to be converted to: bytes that are read as the text is, or the refusal of its reading.
-use Rattle.std.specs.Prelude.{ℕ, ◌≤◌, ◌<◌, ◌≡◌, List, [], ◌++◌, Bool, true, false, length, take}
+use Rattle.std.specs.Prelude.{ℕ, ◌≤◌, ◌<◌, ◌≡◌, List, [], ◌++◌, Result, Ok, Err, Some, length, take}
+use Rattle.std.specs.Prelude.{Option as Maybe}
 use Rattle.std.proofs.Math.Option.{Option, none, some}
 use Rattle.refusals.specs.declared.Refusal.{Refusal}
 use Rattle.refusals.specs.declared.Refusal.TheVariants.{FormLong, NoParse}
@@ -10,15 +11,12 @@ use Rattle.form.specs.Spans as spans
 use Rattle.notation.specs.Texts.{text_limit}
 use Rattle.notation.specs.Grammar.{Token, Spot, read_text}
 use Rattle.notation.specs.Faults.{fault}
-use Rattle.text_reader.specs.declared.emit.Grown.{Grown}
 use Rattle.text_reader.specs.declared.machine.Reading.{Reading}
 use Rattle.text_reader.specs.declared.machine.Want.TheVariants.{Whole}
 use Rattle.text_reader.specs.declared.convert.Converted.{Converted}
 use Rattle.text_reader.specs.declared.convert.Converted.TheVariants.{Form, Refused}
 use Rattle.text_reader.specs.declared.convert.Fault.{Fault}
 use Rattle.text_reader.specs.declared.convert.Fault.TheVariants.{At, Nowhere, Long}
-use Rattle.text_reader.specs.declared.convert.Ending.{Ending}
-use Rattle.text_reader.specs.declared.convert.Ending.TheVariants.{Whole as whole-form, Stops}
 use Rattle.text_reader.specs.Forms.{Emitted}
 use Rattle.text_reader.specs.Tokens.{spots_at, signs_at}
 use Rattle.text_reader.specs.Machine.{run}
@@ -59,7 +57,7 @@ abbrev pub all_of : List ℕ → Out (List Token) (List ℕ)
 all_of text = run (signs_at text 0) Whole [] []
 
 -- e is the whole form, and was emitted into f (data, as `Leads` is)
-pub data Ends (text f : List ℕ) (g : Grown) : Type 0 where
+pub data Ends (text f : List ℕ) (g : Maybe ℕ) : Type 0 where
   ends : (e : List ℕ) → all_of text ≡ done e [] → Emitted e f g → Ends text f g
 
 -- the tokens of a text are some, and those from a place on
@@ -72,13 +70,10 @@ pub record StopsAt (text : List ℕ) (at : ℕ) : Type 0 where
   pub before : Reached text at
   pub is : all_of text ≡ stop NoParse (signs_at text at)
 
-unfoldable pub EndingOk : List ℕ → List ℕ → Ending → Type 0
-EndingOk text f (whole-form g) = Ends text f g
-EndingOk text f (Stops at) = StopsAt text at
+-- nothing more is wanted, with a form; or the next token from a place on may not stand there
+unfoldable pub EndingOk : List ℕ → List ℕ → Result (Maybe ℕ) ℕ → Type 0
+EndingOk text f (Ok g) = Ends text f g
+EndingOk text f (Err at) = StopsAt text at
 
 abbrev pub begun : Reading
-begun = record { at = 0; want = Whole; depth = 0; grown = record { len = 0; over = false } }
-
-abbrev pub finished : Bool → ℕ → Converted
-finished true n = Refused FormLong
-finished false n = Form n
+begun = record { at = 0; want = Whole; depth = 0; grown = Some 0 }

@@ -1,15 +1,18 @@
--- The numbers by which the code says what a part of a word spells.
-use Rattle.std.specs.Prelude.{ℕ, ◌+◌, ◌*◌, ◌≤◌, ◌≡◌, List, [], ◌∷◌, Bool, true, false, eqb, ltb, length, drop}
+-- What the code says that a part of a word spells, in the definition's words.
+use Rattle.std.specs.Prelude.{ℕ, ◌+◌, ◌*◌, ◌≤◌, ◌<◌, ◌≡◌, List, [], ◌∷◌, Bool, true, false, Some, None, length, drop}
+use Rattle.std.specs.Prelude.{Option as Maybe}
 use Rattle.std.proofs.Math.Option.{Option, none, some}
 use Rattle.notation.specs.Words.{names, numbered, hex_value, hex_bytes, hex_word, signed_word, and_then}
 
--- an operator's number, or 0
-unfoldable pub operator : ℕ → Option (List ℕ)
-operator k = elim (eqb k 0) [ true ↦ none | false ↦ some (k ∷ []) ]
+-- the code's number, or none
+unfoldable pub found : Maybe ℕ → Option ℕ
+found (Some n) = some n
+found None = none
 
--- a number below a limit, or one that is not
-unfoldable pub below : ℕ → ℕ → Option ℕ
-below limit n = elim (ltb n limit) [ true ↦ some n | false ↦ none ]
+-- an operator's number, as an atom
+unfoldable pub operator : Maybe ℕ → Option (List ℕ)
+operator (Some k) = some (k ∷ [])
+operator None = none
 
 -- the operator that one byte names
 unfoldable pub named_by : ℕ → Option (List ℕ)
@@ -33,7 +36,12 @@ pub record Begins (w : List ℕ) (r : Bool) : Type 0 where
   pub long : r ≡ true → 3 ≤ length w
   pub alone : r ≡ true → signed_word w ≡ none
 
--- r is the value of a hex digit, or 16
-pub record Digit (c r : ℕ) : Type 0 where
-  pub is : hex_value c ≡ below 16 r
-  pub small : r ≤ 16
+-- no number, or one that a hex digit may have
+unfoldable pub Small : Maybe ℕ → Type 0
+Small (Some n) = n < 16
+Small None = Unit {0}
+
+-- r is the value of a hex digit, where c is one
+pub record Digit (c : ℕ) (r : Maybe ℕ) : Type 0 where
+  pub is : hex_value c ≡ found r
+  pub small : Small r

@@ -1,13 +1,11 @@
 -- What the scanner promises: the next token of a text, in the definition's words.
-use Rattle.std.specs.Prelude.{ℕ, ◌+◌, ◌-◌, ◌≤◌, ◌<◌, ◌≡◌, List, [], ◌∷◌, ◌++◌, Bool, true, false, length, take, drop, get_or}
+use Rattle.std.specs.Prelude.{ℕ, ◌+◌, ◌-◌, ◌≤◌, ◌<◌, ◌≡◌, List, [], ◌∷◌, ◌++◌, Bool, true, false, Result, Ok, Err, length, take, drop, get_or}
 use Rattle.notation.specs.declared.Kind.{Kind}
 use Rattle.notation.specs.declared.Kind.TheVariants.{Blank, Opens, Closes, Quotes, Plain}
 use Rattle.notation.specs.Grammar.{opening, closing, dot, wrong, word, quoted, Spot, spot, kind_of, ending, spots_from, quoted_from, signs}
 use Rattle.notation.specs.Grammar.{Token as Sign}
 use Rattle.text_reader.specs.declared.scan.Token.{Token}
 use Rattle.text_reader.specs.declared.scan.Token.TheVariants.{End, Open, Close, Dot, Word, Quoted, Wrong}
-use Rattle.text_reader.specs.declared.scan.Closed.{Closed}
-use Rattle.text_reader.specs.declared.scan.Closed.TheVariants.{At, Bad, Never}
 
 -- the bytes of a text from one place to another
 abbrev pub between : List ℕ → ℕ → ℕ → List ℕ
@@ -100,18 +98,14 @@ pub record QuoteEnds (text : List ℕ) (at r : ℕ) : Type 0 where
   pub within : r < length text
   pub is : (q : ℕ) → quoted_from (drop at text) at q [] ≡ spot (quoted (between text at r)) q ∷ spots_at text (r + 1)
 
--- at i stands what may not stand in quotes
-pub record QuoteBad (text : List ℕ) (at i : ℕ) : Type 0 where
-  pub is : (q : ℕ) → quoted_from (drop at text) at q [] ≡ spot wrong i ∷ []
+-- at i stands what may not stand after the quote at q, or i is q, and it is never closed
+pub record QuoteWrong (text : List ℕ) (q i : ℕ) : Type 0 where
+  pub is : quoted_from (drop (q + 1) text) (q + 1) q [] ≡ spot wrong i ∷ []
 
--- it is never closed
-pub record QuoteOpen (text : List ℕ) (at : ℕ) : Type 0 where
-  pub is : (q : ℕ) → quoted_from (drop at text) at q [] ≡ spot wrong q ∷ []
-
-unfoldable pub ClosedOk : List ℕ → ℕ → Closed → Type 0
-ClosedOk text at (At r) = QuoteEnds text at r
-ClosedOk text at (Bad i) = QuoteBad text at i
-ClosedOk text at Never = QuoteOpen text at
+-- where the quote at q is closed, or the place of what is wrong
+unfoldable pub ClosedOk : List ℕ → ℕ → Result ℕ ℕ → Type 0
+ClosedOk text q (Ok r) = QuoteEnds text (q + 1) r
+ClosedOk text q (Err i) = QuoteWrong text q i
 
 -- the bytes between at and to end there, as a word or a dot
 pub record Whole (text : List ℕ) (at to : ℕ) : Type 0 where

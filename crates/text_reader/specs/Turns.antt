@@ -1,54 +1,41 @@
 -- What the machine's functions promise: the definition's step, with the open lists in the frames and the form so far in the form.
-use Rattle.std.specs.Prelude.{ℕ, zero, suc, ◌+◌, ◌≤◌, ◌<◌, ◌≡◌, List, [], ◌∷◌, Bool, true, false, length, get_or}
+use Rattle.std.specs.Prelude.{ℕ, zero, suc, ◌+◌, ◌≤◌, ◌<◌, ◌≡◌, List, [], ◌∷◌, Bool, true, false, Option, Some, None, length, get_or}
 use Rattle.meaning.specs.Limits.{form_limit}
 use Rattle.refusals.specs.declared.Refusal.TheVariants.{NoParse as not-parsed}
 use Rattle.meaning.specs.Meter.{Out, done, stop}
-use Rattle.notation.specs.declared.Place.{Place}
-use Rattle.notation.specs.declared.Place.TheVariants.{Operator, Code, Data}
-use Rattle.notation.specs.Texts.{head_in}
+use Rattle.notation.specs.declared.Place.TheVariants.{Operator}
+use Rattle.notation.specs.Texts.{head_in, place_after}
 use Rattle.notation.specs.Grammar.{Token}
-use Rattle.text_reader.specs.declared.emit.Grown.{Grown}
 use Rattle.text_reader.specs.declared.machine.Want.{Want}
 use Rattle.text_reader.specs.declared.machine.Want.TheVariants.{Whole, First, More, Last, Bracket, Nothing}
 use Rattle.text_reader.specs.declared.machine.Reading.{Reading}
-use Rattle.text_reader.specs.declared.machine.Step.{Step}
-use Rattle.text_reader.specs.declared.machine.Step.TheVariants.{On, NoParse}
 use Rattle.text_reader.specs.declared.machine.Turn.{Turn}
 use Rattle.text_reader.specs.declared.machine.Turn.TheVariants.{Goes, Done, Fails}
-use Rattle.text_reader.specs.declared.machine.Opening.{Opening}
-use Rattle.text_reader.specs.declared.machine.Opening.TheVariants.{List as list, No as no-list}
+use Rattle.text_reader.specs.declared.machine.Opened.{Opened}
 use Rattle.text_reader.specs.declared.machine.Wanted.{Wanted}
-use Rattle.text_reader.specs.declared.machine.Wanted.TheVariants.{Atom, No as no-atom}
-use Rattle.text_reader.specs.Forms.{Emitted}
+use Rattle.text_reader.specs.Forms.{Within, Emitted}
 use Rattle.text_reader.specs.Tokens.{signs_at, OneToken}
 use Rattle.text_reader.specs.Machine.{Next, on, no, back, pop, on_atom, on_word, run}
 
 -- ---- what a bracket opens, and what an atom is followed by
 
 -- what a bracket opens: what is wanted in it, the number of what is wanted after it, and whether it is the left part of a pair
-abbrev pub opening_of : Want → Opening
-opening_of Whole = list (First Operator) 0 false
-opening_of (First p) = list (First (head_in p)) (back p) true
-opening_of (More p) = list (First (head_in p)) (back p) true
-opening_of (Last p) = list (First p) 3 false
-opening_of Bracket = no-list
-opening_of Nothing = no-list
-
--- the place after an atom that is the byte 1 (true), or another
-abbrev pub place_after : Place → Bool → Place
-place_after Operator true = Data
-place_after Operator false = Code
-place_after Code one = Code
-place_after Data one = Data
+abbrev pub opening_of : Want → Option Opened
+opening_of Whole = Some (record { within = First Operator; after = 0; pair = false })
+opening_of (First p) = Some (record { within = First (head_in p); after = back p; pair = true })
+opening_of (More p) = Some (record { within = First (head_in p); after = back p; pair = true })
+opening_of (Last p) = Some (record { within = First p; after = 3; pair = false })
+opening_of Bracket = None
+opening_of Nothing = None
 
 -- what is wanted after an atom that is the byte 1 (true), or another, and whether it is the left part of a pair
-abbrev pub wanted_after : Want → Bool → Wanted
-wanted_after Whole one = Atom Nothing false
-wanted_after (First p) one = Atom (More (place_after p one)) true
-wanted_after (More p) one = Atom (More (place_after p one)) true
-wanted_after (Last p) one = Atom Bracket false
-wanted_after Bracket one = no-atom
-wanted_after Nothing one = no-atom
+abbrev pub wanted_after : Want → Bool → Option Wanted
+wanted_after Whole one = Some (record { want = Nothing; pair = false })
+wanted_after (First p) one = Some (record { want = More (place_after p one); pair = true })
+wanted_after (More p) one = Some (record { want = More (place_after p one); pair = true })
+wanted_after (Last p) one = Some (record { want = Bracket; pair = false })
+wanted_after Bracket one = None
+wanted_after Nothing one = None
 
 -- ---- steps
 
@@ -65,7 +52,7 @@ pub data Leads (o : Next) (fr f : List ℕ) (q : Reading) : Type 0 where
 pub record Moved (k : Want → List ℕ → List ℕ → Next) (fr fr' f f' : List ℕ) (r : Reading) (next : ℕ) (q : Reading) : Type 0 where
   pub at : q.at ≡ next
   pub deep : q.depth ≤ r.depth + 1
-  pub within : q.grown.len ≤ form_limit
+  pub within : Within q.grown
   pub frames : length fr' ≡ length fr
   pub long : length f' ≡ length f
   pub so : (e : List ℕ) → Emitted e f r.grown → Leads (k r.want (stack_in fr r.depth) e) fr' f' q
@@ -74,9 +61,9 @@ pub record Moved (k : Want → List ℕ → List ℕ → Next) (fr fr' f f' : Li
 pub record Stuck (k : Want → List ℕ → List ℕ → Next) (fr : List ℕ) (r : Reading) : Type 0 where
   pub so : (e : List ℕ) → k r.want (stack_in fr r.depth) e ≡ no
 
-unfoldable pub StepOk : (Want → List ℕ → List ℕ → Next) → List ℕ → List ℕ → List ℕ → List ℕ → Reading → ℕ → Step → Type 0
-StepOk k fr fr' f f' r next (On q) = Moved k fr fr' f f' r next q
-StepOk k fr fr' f f' r next NoParse = Stuck k fr r
+unfoldable pub StepOk : (Want → List ℕ → List ℕ → Next) → List ℕ → List ℕ → List ℕ → List ℕ → Reading → ℕ → Option Reading → Type 0
+StepOk k fr fr' f f' r next (Some q) = Moved k fr fr' f f' r next q
+StepOk k fr fr' f f' r next None = Stuck k fr r
 
 -- a step that looks at no open list
 pub data LeadsOn (o : Next) (st f : List ℕ) (q : Reading) : Type 0 where
@@ -85,33 +72,33 @@ pub data LeadsOn (o : Next) (st f : List ℕ) (q : Reading) : Type 0 where
 pub record Passed (k : Want → List ℕ → List ℕ → Next) (f f' : List ℕ) (r : Reading) (next : ℕ) (q : Reading) : Type 0 where
   pub at : q.at ≡ next
   pub deep : q.depth ≡ r.depth
-  pub within : q.grown.len ≤ form_limit
+  pub within : Within q.grown
   pub long : length f' ≡ length f
   pub so : (st e : List ℕ) → Emitted e f r.grown → LeadsOn (k r.want st e) st f' q
 
 pub record NotPassed (k : Want → List ℕ → List ℕ → Next) (r : Reading) : Type 0 where
   pub so : (st e : List ℕ) → k r.want st e ≡ no
 
-unfoldable pub PassOk : (Want → List ℕ → List ℕ → Next) → List ℕ → List ℕ → Reading → ℕ → Step → Type 0
-PassOk k f f' r next (On q) = Passed k f f' r next q
-PassOk k f f' r next NoParse = NotPassed k r
+unfoldable pub PassOk : (Want → List ℕ → List ℕ → Next) → List ℕ → List ℕ → Reading → ℕ → Option Reading → Type 0
+PassOk k f f' r next (Some q) = Passed k f f' r next q
+PassOk k f f' r next None = NotPassed k r
 
 -- an atom of these bytes
-unfoldable pub AtomOk : List ℕ → List ℕ → List ℕ → Reading → ℕ → Step → Type 0
+unfoldable pub AtomOk : List ℕ → List ℕ → List ℕ → Reading → ℕ → Option Reading → Type 0
 unfolding PassOk on_atom
 AtomOk b f f' r next s = PassOk (λ w. on_atom w b) f f' r next s
 
 -- an atom of any bytes that are more than a form may have, in any form
-pub record LongOk (r : Reading) (next : ℕ) (s : Step) : Type 0 where
+pub record LongOk (r : Reading) (next : ℕ) (s : Option Reading) : Type 0 where
   pub so : (b f : List ℕ) → form_limit < length b → AtomOk b f f r next s
 
 -- a word
-unfoldable pub WordOk : List ℕ → List ℕ → List ℕ → Reading → ℕ → Step → Type 0
+unfoldable pub WordOk : List ℕ → List ℕ → List ℕ → Reading → ℕ → Option Reading → Type 0
 unfolding PassOk on_word
 WordOk v f f' r next s = PassOk (λ w. on_word w v) f f' r next s
 
 -- the innermost list is closed, with g in the form
-pub record Popped (fr : List ℕ) (depth : ℕ) (g : Grown) (next : ℕ) (q : Reading) : Type 0 where
+pub record Popped (fr : List ℕ) (depth : ℕ) (g : Option ℕ) (next : ℕ) (q : Reading) : Type 0 where
   pub at : q.at ≡ next
   pub deep : q.depth ≤ depth
   pub grown : q.grown ≡ g
@@ -120,23 +107,23 @@ pub record Popped (fr : List ℕ) (depth : ℕ) (g : Grown) (next : ℕ) (q : Re
 pub record NotPopped (fr : List ℕ) (depth : ℕ) : Type 0 where
   pub so : (e : List ℕ) → pop (stack_in fr depth) e ≡ no
 
-unfoldable pub PopOk : List ℕ → ℕ → Grown → ℕ → Step → Type 0
-PopOk fr depth g next (On q) = Popped fr depth g next q
-PopOk fr depth g next NoParse = NotPopped fr depth
+unfoldable pub PopOk : List ℕ → ℕ → Option ℕ → ℕ → Option Reading → Type 0
+PopOk fr depth g next (Some q) = Popped fr depth g next q
+PopOk fr depth g next None = NotPopped fr depth
 
 -- after a dot
-abbrev pub dotted : Want → Reading → ℕ → Step
-dotted (More p) r next = On (record { at = next; want = Last p; depth = r.depth; grown = r.grown })
-dotted (First p) r next = NoParse
-dotted Bracket r next = NoParse
-dotted Whole r next = NoParse
-dotted (Last p) r next = NoParse
-dotted Nothing r next = NoParse
+abbrev pub dotted : Want → Reading → ℕ → Option Reading
+dotted (More p) r next = Some (record { at = next; want = Last p; depth = r.depth; grown = r.grown })
+dotted (First p) r next = None
+dotted Bracket r next = None
+dotted Whole r next = None
+dotted (Last p) r next = None
+dotted Nothing r next = None
 
 -- ---- turns: a token of the text
 
 -- at the text's end
-abbrev pub end_turn : Want → Grown → Turn
+abbrev pub end_turn : Want → Option ℕ → Turn
 end_turn Nothing g = Done g
 end_turn Whole g = Fails
 end_turn (First p) g = Fails
@@ -145,9 +132,9 @@ end_turn (Last p) g = Fails
 end_turn Bracket g = Fails
 
 -- a step as a turn
-abbrev pub turn_of : Step → Turn
-turn_of (On q) = Goes q
-turn_of NoParse = Fails
+abbrev pub turn_of : Option Reading → Turn
+turn_of (Some q) = Goes q
+turn_of None = Fails
 
 -- what all tokens from r on come to, with e in the form
 abbrev pub from_here : List ℕ → List ℕ → Reading → List ℕ → Out (List Token) (List ℕ)
@@ -159,7 +146,7 @@ pub record Fair (text fr f : List ℕ) (r : Reading) : Type 0 where
   pub deep : r.depth ≤ r.at
   pub short : length text ≤ length fr
   pub room : form_limit ≤ length f
-  pub within : r.grown.len ≤ form_limit
+  pub within : Within r.grown
 
 -- o is what is come to from q on
 pub data Comes (o : Out (List Token) (List ℕ)) (text fr f : List ℕ) (q : Reading) : Type 0 where
@@ -172,7 +159,7 @@ pub record GoesOn (text fr fr' f f' : List ℕ) (r q : Reading) : Type 0 where
   pub so : (e : List ℕ) → Emitted e f r.grown → Comes (from_here text fr r e) text fr' f' q
 
 -- the text ends well
-pub record EndsWell (text fr f f' : List ℕ) (r : Reading) (g : Grown) : Type 0 where
+pub record EndsWell (text fr f f' : List ℕ) (r : Reading) (g : Option ℕ) : Type 0 where
   pub so : (e : List ℕ) → Emitted e f r.grown → (from_here text fr r e ≡ done e []) × Emitted e f' g
 
 -- the next token, or the end, may not stand there

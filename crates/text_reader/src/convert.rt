@@ -2,9 +2,8 @@
 ghost use Rattle.std.specs.Prelude.{◌≡◌, ◌≤◌, length};
 ghost use Rattle.meaning.specs.Limits.{room_least, form_limit};
 ghost use Rattle.notation.specs.Texts.{text_limit};
-ghost use Rattle.text_reader.specs.Converts.{begun, finished, EndingOk, ConvertedOk, FaultOk};
+ghost use Rattle.text_reader.specs.Converts.{begun, EndingOk, ConvertedOk, FaultOk};
 
-use crate::emit::Grown;
 use crate::machine::{Reading, Turn, Want, take_token};
 use crate::scan::next_place;
 use refusals::Refusal;
@@ -24,13 +23,6 @@ pub enum Fault {
     Long,
 }
 
-// How the machine ends: nothing more is wanted, with a form; or the next token from a place on may not stand there.
-#[derive(Clone, Copy)]
-pub(crate) enum Ending {
-    Whole(Grown),
-    Stops(usize),
-}
-
 const TEXT: usize = 32768;
 
 fn start() -> Reading
@@ -40,48 +32,38 @@ fn start() -> Reading
         at: 0,
         want: Want::Whole,
         depth: 0,
-        grown: Grown {
-            len: 0,
-            over: false,
-        },
+        grown: Some(0),
     }
 }
 
-// Refusal 2 comes after 15.
-fn finish(g: Grown) -> Converted
-    ensures { result ≡ finished g.over g.len }
-{
-    if g.over {
-        Converted::Refused(Refusal::FormLong)
-    } else {
-        Converted::Form(g.len)
-    }
-}
-
-// Token by token.
-fn take_tokens(text: &[u8], frames: &mut [u8], room: &mut [u8], form: &mut [u8]) -> Ending
+// Token by token: how many bytes the form has (none where it is too long), where nothing more is wanted at the end; or the place from which on the next token may not stand.
+fn take_tokens(
+    text: &[u8],
+    frames: &mut [u8],
+    room: &mut [u8],
+    form: &mut [u8],
+) -> Result<Option<usize>, usize>
     requires { (length text.now ≤ text_limit) × (text_limit ≤ length frames.old) × (room_least ≤ length room.old) × (form_limit ≤ length form.old) }
     ensures { EndingOk text.now form.new result }
 {
     let mut r = start();
-    while r.at <= text.len() {
+    'tokens: loop {
         match take_token(text, frames, room, form, r) {
             Turn::Goes(q) => {
                 r = q;
             }
             Turn::Done(g) => {
-                return Ending::Whole(g);
+                return Ok(g);
             }
             Turn::Fails => {
-                return Ending::Stops(r.at);
+                return Err(r.at);
             }
         }
     }
-    Ending::Stops(r.at)
 }
 
 // The whole machine. What is wanted after each open list stands here and not with the callers, whose frames stay while a form is worked.
-fn convert(text: &[u8], room: &mut [u8], form: &mut [u8]) -> Ending
+fn convert(text: &[u8], room: &mut [u8], form: &mut [u8]) -> Result<Option<usize>, usize>
     requires { (length text.now ≤ text_limit) × (room_least ≤ length room.old) × (form_limit ≤ length form.old) }
     ensures { EndingOk text.now form.new result }
 {
@@ -98,9 +80,11 @@ pub fn form_of_text(text: &[u8], room: &mut [u8], form: &mut [u8]) -> Converted
     if TEXT < text.len() {
         return Converted::Refused(Refusal::TextLong);
     }
+    // Refusal 2 comes after 15.
     match convert(text, room, form) {
-        Ending::Whole(g) => finish(g),
-        Ending::Stops(_) => Converted::Refused(Refusal::NoParse),
+        Ok(Some(n)) => Converted::Form(n),
+        Ok(None) => Converted::Refused(Refusal::FormLong),
+        Err(_) => Converted::Refused(Refusal::NoParse),
     }
 }
 
@@ -114,7 +98,7 @@ pub fn fault_of_text(text: &[u8], room: &mut [u8]) -> Fault
     }
     let mut form = [0u8; 8192];
     match convert(text, room, &mut form) {
-        Ending::Whole(_) => Fault::Nowhere,
-        Ending::Stops(at) => Fault::At(next_place(text, at)),
+        Ok(_) => Fault::Nowhere,
+        Err(at) => Fault::At(next_place(text, at)),
     }
 }

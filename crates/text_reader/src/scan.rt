@@ -19,65 +19,31 @@ pub(crate) enum Token {
     Wrong(usize),
 }
 
-// Where a quote is closed; or where a byte stands that may not stand in it; or that it is never closed.
-#[derive(Clone, Copy)]
-pub(crate) enum Closed {
-    At(usize),
-    Bad(usize),
-    Never,
-}
-
-pub(crate) fn kind_of(c: u8) -> Kind
+#[tactic(auto, unfolding(notation::specs::Grammar::kind_of))]
+fn kind_of(c: u8) -> Kind
     ensures { result ≡ kind_of c }
 {
-    if c == 0x20 {
-        return Kind::Blank;
+    match c {
+        b' ' | b'\t' | b'\n' | b'\r' => Kind::Blank,
+        b'(' => Kind::Opens,
+        b')' => Kind::Closes,
+        b'"' => Kind::Quotes,
+        _ => Kind::Plain,
     }
-    if c == 0x28 {
-        return Kind::Opens;
-    }
-    if c == 0x29 {
-        return Kind::Closes;
-    }
-    if c == 0x22 {
-        return Kind::Quotes;
-    }
-    if c == 0x09 {
-        return Kind::Blank;
-    }
-    if c == 0x0a {
-        return Kind::Blank;
-    }
-    if c == 0x0d {
-        return Kind::Blank;
-    }
-    Kind::Plain
 }
 
 // Whether a byte belongs to a word.
 fn is_plain(c: u8) -> bool
     ensures { result ≡ is_plain (kind_of c) }
 {
-    match kind_of(c) {
-        Kind::Plain => true,
-        Kind::Blank => false,
-        Kind::Opens => false,
-        Kind::Closes => false,
-        Kind::Quotes => false,
-    }
+    matches!(kind_of(c), Kind::Plain)
 }
 
 // Whether a byte only separates.
 fn is_blank(c: u8) -> bool
     ensures { result ≡ is_blank (kind_of c) }
 {
-    match kind_of(c) {
-        Kind::Blank => true,
-        Kind::Plain => false,
-        Kind::Opens => false,
-        Kind::Closes => false,
-        Kind::Quotes => false,
-    }
+    matches!(kind_of(c), Kind::Blank)
 }
 
 // Where the first byte that does not separate stands, from at on.
@@ -85,14 +51,12 @@ fn skip(text: &[u8], at: usize) -> usize
     requires { at ≤ length text.now }
     ensures { Skipped text.now at result }
 {
-    let mut i = at;
-    while i < text.len() {
+    for i in at..text.len() {
         if !is_blank(text[i]) {
             return i;
         }
-        i += 1;
     }
-    i
+    text.len()
 }
 
 // Where a word ends that goes on at at.
@@ -100,36 +64,32 @@ fn word_end(text: &[u8], at: usize) -> usize
     requires { at ≤ length text.now }
     ensures { WordEnds text.now at result }
 {
-    let mut i = at;
-    while i < text.len() {
+    for i in at..text.len() {
         if !is_plain(text[i]) {
             return i;
         }
-        i += 1;
     }
-    i
+    text.len()
 }
 
-// Where the quote is closed whose text begins at at.
-fn quote_end(text: &[u8], at: usize) -> Closed
-    requires { at ≤ length text.now }
-    ensures { ClosedOk text.now at result }
+// Where the quote is closed that opens at `quote`; or the place of what is wrong: a byte that may not stand in quotes, or the quote itself
+// where it is never closed.
+fn quote_end(text: &[u8], quote: usize) -> Result<usize, usize>
+    requires { quote < length text.now }
+    ensures { ClosedOk text.now quote result }
 {
-    let mut i = at;
-    while i < text.len() {
-        let c = text[i];
-        if c == 0x22 {
-            return Closed::At(i);
+    for i in quote + 1..text.len() {
+        match text[i] {
+            b'"' => {
+                return Ok(i);
+            }
+            b' '..=b'~' => {}
+            _ => {
+                return Err(i);
+            }
         }
-        if c < 0x20 {
-            return Closed::Bad(i);
-        }
-        if 0x7e < c {
-            return Closed::Bad(i);
-        }
-        i += 1;
     }
-    Closed::Never
+    Err(quote)
 }
 
 // The word from at to end; a dot alone is no word.
@@ -137,10 +97,8 @@ fn word_from(text: &[u8], at: usize, end: usize) -> Token
     requires { Whole text.now at end }
     ensures { TokenOk text.now at result }
 {
-    if end - at == 1 {
-        if text[at] == 0x2e {
-            return Token::Dot(end);
-        }
+    if end - at == 1 && text[at] == b'.' {
+        return Token::Dot(end);
     }
     Token::Word(at, end)
 }
@@ -150,10 +108,9 @@ fn quoted_from(text: &[u8], at: usize) -> Token
     requires { (at < length text.now) × (kind_of (get_or text.now at 0) ≡ Quotes) }
     ensures { TokenOk text.now at result }
 {
-    match quote_end(text, at + 1) {
-        Closed::At(end) => Token::Quoted(at + 1, end),
-        Closed::Bad(i) => Token::Wrong(i),
-        Closed::Never => Token::Wrong(at),
+    match quote_end(text, at) {
+        Ok(end) => Token::Quoted(at + 1, end),
+        Err(i) => Token::Wrong(i),
     }
 }
 
@@ -190,9 +147,7 @@ pub(crate) fn next_place(text: &[u8], at: usize) -> usize
     ensures { result ≡ first_place (spots_at text.now at) (length text.now) }
 {
     match next_token(text, at) {
-        Token::Open(next) => next - 1,
-        Token::Close(next) => next - 1,
-        Token::Dot(next) => next - 1,
+        Token::Open(next) | Token::Close(next) | Token::Dot(next) => next - 1,
         Token::Word(from, _) => from,
         Token::Quoted(from, _) => from - 1,
         Token::Wrong(i) => i,

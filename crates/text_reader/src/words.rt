@@ -2,104 +2,59 @@
 ghost use Rattle.std.specs.Prelude.{◌≡◌, ◌≤◌, ◌<◌, length, drop};
 ghost use Rattle.notation.specs.Words.{named, hex_bytes, word_bytes};
 ghost use Rattle.decimals.specs.Spelling.{Spelling};
-ghost use Rattle.text_reader.specs.Digits.{operator, below, named_by, hex_pair, Digit, Begins};
+ghost use Rattle.text_reader.specs.Digits.{operator, found, named_by, hex_pair, Digit, Begins};
 
 use decimals::Spelled;
-use notation::Place;
+use notation::{NAMES, Place};
 
-// The number of the operator that a byte names, or 0.
-fn operator_of(c: u8) -> u8
+// The number of the operator that a byte names.
+fn operator_of(c: u8) -> Option<u8>
     ensures { named_by c ≡ operator result }
 {
-    if c == 0x71 {
-        return 1;
+    for (i, name) in NAMES.iter().enumerate() {
+        if c == *name {
+            return Some(i as u8 + 1);
+        }
     }
-    if c == 0x61 {
-        return 2;
-    }
-    if c == 0x69 {
-        return 3;
-    }
-    if c == 0x63 {
-        return 4;
-    }
-    if c == 0x66 {
-        return 5;
-    }
-    if c == 0x72 {
-        return 6;
-    }
-    if c == 0x6c {
-        return 7;
-    }
-    if c == 0x78 {
-        return 8;
-    }
-    if c == 0x3d {
-        return 9;
-    }
-    0
+    None
 }
 
-// The number of the operator that a word names at a place, or 0.
-fn named(p: Place, w: &[u8]) -> u8
+// The number of the operator that a word names at a place.
+fn named(p: Place, w: &[u8]) -> Option<u8>
     ensures { named p w.now ≡ operator result }
 {
-    match p {
-        Place::Operator => { if w.len() == 1 { operator_of(w[0]) } else { 0 } }
-        Place::Code => 0,
-        Place::Data => 0,
+    match (p, w) {
+        (Place::Operator, [c]) => operator_of(*c),
+        _ => None,
     }
 }
 
-// A hex digit's value, or 16.
-fn hex_value(c: u8) -> u8
+// A hex digit's value.
+fn hex_value(c: u8) -> Option<u8>
     ensures { Digit c result }
 {
-    if c < 0x30 {
-        return 16;
+    match c {
+        b'0'..=b'9' => Some(c - b'0'),
+        b'A'..=b'F' => Some(c - b'A' + 10),
+        b'a'..=b'f' => Some(c - b'a' + 10),
+        _ => None,
     }
-    if c <= 0x39 {
-        return c - 0x30;
-    }
-    if c < 0x41 {
-        return 16;
-    }
-    if c <= 0x46 {
-        return c - 0x37;
-    }
-    if c < 0x61 {
-        return 16;
-    }
-    if c <= 0x66 {
-        return c - 0x57;
-    }
-    16
 }
 
 // Whether a word begins with 0x and has something after it.
 fn begins_hex(w: &[u8]) -> bool
     ensures { Begins w.now result }
 {
-    if w.len() < 3 {
-        return false;
-    }
-    if w[0] == 0x30 { w[1] == 0x78 } else { false }
+    matches!(w, [b'0', b'x', _, ..])
 }
 
-// Two digits as a byte; over 255 where one is none.
-fn hex_pair(c: u8, d: u8) -> usize
-    ensures { hex_pair c d ≡ below 256 result }
+// Two digits as a byte.
+fn hex_pair(c: u8, d: u8) -> Option<u8>
+    ensures { hex_pair c d ≡ found result }
 {
-    let h = hex_value(c);
-    let l = hex_value(d);
-    if h == 16 {
-        return 256;
-    }
-    if l == 16 {
-        return 256;
-    }
-    h as usize * 16 + l as usize
+    let high = hex_value(c)?;
+    let low = hex_value(d)?;
+    Some(high * 16 + low)
 }
 
 // The bytes of the digits after 0x, at the room's end.
@@ -112,14 +67,11 @@ fn hex_bytes(w: &[u8], room: &mut [u8]) -> Spelled
         return Spelled::Nothing;
     }
     let from = room.len() - n;
-    let mut i: usize = 0;
-    while i < n {
-        let b = hex_pair(w[2 + 2 * i], w[3 + 2 * i]);
-        if 255 < b {
+    for i in 0..n {
+        let Some(b) = hex_pair(w[2 + 2 * i], w[3 + 2 * i]) else {
             return Spelled::Nothing;
-        }
-        room[from + i] = b as u8;
-        i += 1;
+        };
+        room[from + i] = b;
     }
     Spelled::From(from)
 }
@@ -129,8 +81,7 @@ pub(crate) fn word_bytes(p: Place, w: &[u8], room: &mut [u8]) -> Spelled
     requires { length w.now < length room.old }
     ensures { Spelling (word_bytes p w.now) room.old room.new result }
 {
-    let k = named(p, w);
-    if 0 < k {
+    if let Some(k) = named(p, w) {
         let from = room.len() - 1;
         room[from] = k;
         return Spelled::From(from);

@@ -8,8 +8,8 @@ returns-then-text-gt-TEXT c = search laws.too_long_to_see
 pub next_place-requires : goal.next_place-requires
 next_place-requires c = search laws.stops_within
 
-pub returns-in-Whole : goal.returns-in-Whole
-returns-in-Whole c = search laws.whole_parses
+pub returns-in-Ok : goal.returns-in-Ok
+returns-in-Ok c = search laws.whole_parses
 
-pub returns-in-Stops : goal.returns-in-Stops
-returns-in-Stops c = search laws.stops_there
+pub returns-in-Err : goal.returns-in-Err
+returns-in-Err c = search laws.stops_there

@@ -5,8 +5,11 @@ use Rattle.text_reader.proofs.convert.form_of_text.Goals as goal
 pub returns-then-text-gt-TEXT : goal.returns-then-text-gt-TEXT
 returns-then-text-gt-TEXT c = search laws.too_long
 
-pub returns-in-Whole : goal.returns-in-Whole
-returns-in-Whole c = search laws.whole_converted
+pub returns-in-Ok-Some : goal.returns-in-Ok-Some
+returns-in-Ok-Some c = search laws.whole_converted
 
-pub returns-in-Stops : goal.returns-in-Stops
-returns-in-Stops c = search laws.stops_converted
+pub returns-in-Err : goal.returns-in-Err
+returns-in-Err c = search laws.stops_converted
+
+pub returns-in-Ok-None : goal.returns-in-Ok-None
+returns-in-Ok-None c = search laws.long_converted

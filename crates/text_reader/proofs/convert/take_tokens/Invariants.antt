@@ -5,8 +5,8 @@ use lib.ListN.{length}
 use Rattle.text_reader.proofs.ConvertLaws as laws
 use Rattle.text_reader.proofs.convert.take_tokens.Given as goal
 
-abbrev pub invariant-loop-r : goal.invariant-loop-r
-invariant-loop-r l = laws.Going l.text l.frames l.form l.r × ((length l.frames ≡ length l.initial.frames) × ((length l.room ≡ length l.initial.room) × (length l.form ≡ length l.initial.form)))
+abbrev pub invariant-tokens : goal.invariant-tokens
+invariant-tokens l = laws.Going l.text l.frames l.form l.r × ((length l.frames ≡ length l.initial.frames) × ((length l.room ≡ length l.initial.room) × (length l.form ≡ length l.initial.form)))
 
-abbrev pub decreases-loop-r : goal.decreases-loop-r
-decreases-loop-r l = length l.text + 1 - l.r.at
+abbrev pub decreases-tokens : goal.decreases-tokens
+decreases-tokens l = length l.text + 1 - l.r.at

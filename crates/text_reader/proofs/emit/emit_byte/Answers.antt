@@ -1,12 +1,12 @@
--- emit_byte: by the room that is left. Assumes nothing.
+-- emit_byte: an answer for each need; what carries weight stands in the laws.
 use Rattle.text_reader.proofs.EmitLaws as laws
 use Rattle.text_reader.proofs.emit.emit_byte.Goals as goal
 
-pub returns-then-g : goal.returns-then-g
-returns-then-g c = search laws.still_over
+pub returns-in_err-at : goal.returns-in_err-at
+returns-in_err-at c = search (laws.still_over, c.in_err-at.was)
 
-pub returns-then-at-lt-FORM : goal.returns-then-at-lt-FORM
-returns-then-at-lt-FORM c = search laws.byte_fits
+pub returns-then-at-ge-FORM : goal.returns-then-at-ge-FORM
+returns-then-at-ge-FORM c = search (laws.byte_over, c.in_ok-at.was)
 
-pub returns-else-at-lt-FORM : goal.returns-else-at-lt-FORM
-returns-else-at-lt-FORM c = search laws.byte_over
+pub returns : goal.returns
+returns c = search (laws.byte_fits, c.in_ok-at.was)

@@ -1,24 +1,15 @@
--- emit_bytes: i bytes stand after what stood. Assumes nothing.
+-- emit_bytes: an answer for each need; what carries weight stands in the laws.
 use Rattle.text_reader.proofs.EmitLaws as laws
 use Rattle.text_reader.proofs.emit.emit_bytes.Goals as goal
 
-pub returns-then-g : goal.returns-then-g
-returns-then-g c = search laws.still_over
+pub returns-in_err-at : goal.returns-in_err-at
+returns-in_err-at c = search (laws.still_over, c.in_err-at.was)
+
+pub overflow_sub-at : goal.overflow_sub-at
+overflow_sub-at c = search (laws.within_limit, c.in_ok-at.was)
 
 pub returns-then-at-b : goal.returns-then-at-b
-returns-then-at-b c = search laws.now_over
-
-pub loop-i-init : goal.loop-i-init
-loop-i-init c = search laws.fill_starts
-
-pub bounds-form-at : goal.bounds-form-at
-bounds-form-at c = search laws.fill_fits
-
-pub loop-i-preserved : goal.loop-i-preserved
-loop-i-preserved c = search laws.fill_turn
-
-pub shape_of-form : goal.shape_of-form
-shape_of-form c = search laws.fill_same
+returns-then-at-b c = search (laws.now_over, c.in_ok-at.was)
 
 pub returns : goal.returns
-returns c = search laws.fill_all
+returns c = search (laws.bytes_fit, laws.within_limit, c.in_ok-at.was)

@@ -1,9 +1,9 @@
--- on_atom: ff where a pair begins, and the atom. Assumes nothing.
+-- on_atom: an answer for each need; what carries weight stands in the laws.
 use Rattle.text_reader.proofs.MachineLaws as laws
 use Rattle.text_reader.proofs.machine.on_atom.Goals as goal
 
-pub returns-in-Atom : goal.returns-in-Atom
-returns-in-Atom c = search laws.atom_done
+pub returns-in_err-wanted : goal.returns-in_err-wanted
+returns-in_err-wanted c = search (laws.atom_stuck, c.in_err-wanted.ensures)
 
-pub returns-in-No : goal.returns-in-No
-returns-in-No c = search laws.atom_stuck
+pub returns : goal.returns
+returns c = search (laws.atom_done, c.in_ok-wanted.ensures)

@@ -1,9 +1,9 @@
--- on_long: as after any atom but the byte 1, and the form is too long. Assumes nothing.
+-- on_long: an answer for each need; what carries weight stands in the laws.
 use Rattle.text_reader.proofs.MachineLaws as laws
 use Rattle.text_reader.proofs.machine.on_long.Goals as goal
 
-pub returns-in-Atom : goal.returns-in-Atom
-returns-in-Atom c = search laws.long_done
+pub returns-in_err-wanted : goal.returns-in_err-wanted
+returns-in_err-wanted c = search (laws.long_stuck, c.in_err-wanted.ensures)
 
-pub returns-in-No : goal.returns-in-No
-returns-in-No c = search laws.long_stuck
+pub returns : goal.returns
+returns c = search (laws.long_done, c.in_ok-wanted.ensures)

@@ -1,12 +1,15 @@
--- begins_hex: by the length and the first two bytes. Assumes nothing.
+-- begins_hex: an answer for each need; what carries weight stands in the laws.
 use Rattle.text_reader.proofs.HexLaws as laws
 use Rattle.text_reader.proofs.words.begins_hex.Goals as goal
 
-pub returns-then-w-lt3 : goal.returns-then-w-lt3
-returns-then-w-lt3 c = search laws.begins_short
+pub returns-in-48 : goal.returns-in-48
+returns-in-48 c = search laws.begins_hex
 
-pub returns-then-w-eq48 : goal.returns-then-w-eq48
-returns-then-w-eq48 c = search laws.begins_zero
+pub returns-in_default : goal.returns-in_default
+returns-in_default c = search laws.begins_short
 
-pub returns-else-w-eq48 : goal.returns-else-w-eq48
-returns-else-w-eq48 c = search laws.begins_other
+pub returns-in_default-2 : goal.returns-in_default-2
+returns-in_default-2 c = search (laws.begins_zero, laws.begins_other)
+
+pub returns-in_default-3 : goal.returns-in_default-3
+returns-in_default-3 c = search (laws.begins_zero, laws.begins_other)

@@ -1,4 +1,4 @@
--- hex_bytes: i bytes are spelled. Assumes nothing.
+-- hex_bytes: an answer for each need; what carries weight stands in the laws.
 use Rattle.text_reader.proofs.DigitsLaws as laws
 use Rattle.text_reader.proofs.words.hex_bytes.Goals as goal
 
@@ -11,11 +11,11 @@ loop-i-init c = search laws.hex_starts
 pub bounds-w-i-in-loop-i : goal.bounds-w-i-in-loop-i
 bounds-w-i-in-loop-i c = search laws.hex_second
 
-pub shape_of-room-then-b-gt255 : goal.shape_of-room-then-b-gt255
-shape_of-room-then-b-gt255 c = search laws.hex_same
+pub returns-in_default : goal.returns-in_default
+returns-in_default c = search laws.hex_wrong
 
-pub returns-then-b-gt255 : goal.returns-then-b-gt255
-returns-then-b-gt255 c = search laws.hex_wrong
+pub shape_of-room-in_default : goal.shape_of-room-in_default
+shape_of-room-in_default c = search laws.hex_same
 
 pub bounds-room-from : goal.bounds-room-from
 bounds-room-from c = search laws.hex_fits

@@ -3,8 +3,8 @@ use Rattle.text_reader.proofs.WordLaws as laws
 use borrow.Author.Rules.{rules}
 use Rattle.text_reader.proofs.words.word_bytes.Goals as goal
 
-pub returns-then-k-gt0 : goal.returns-then-k-gt0
-returns-then-k-gt0 c = search laws.word_name
+pub returns-in-Some : goal.returns-in-Some
+returns-in-Some c = search laws.word_name
 
 pub hex_bytes-requires : goal.hex_bytes-requires
 hex_bytes-requires c = (search laws.hex_long, search rules)
