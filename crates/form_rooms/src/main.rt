@@ -8,25 +8,9 @@ use form::{ReadAnswer, WriteAnswer};
 // What every lent byte holds before a call. No form here has it.
 const DIRT: u8 = 0xdd;
 
-fn wide(x: u8) -> usize {
-    x as usize
-}
-
-fn differs(x: u8, y: u8) -> usize
-    ensures { result ≤ 1 }
-{
-    if x == y { 0 } else { 1 }
-}
-
 // How many bytes of b are not x.
 fn others(b: &[u8], x: u8) -> usize {
-    let mut n: usize = 0;
-    let mut i: usize = 0;
-    while i < b.len() {
-        n += differs(b[i], x);
-        i += 1;
-    }
-    n
+    b.iter().filter(|y| **y != x).count()
 }
 
 fn say(words: &[u8], n: usize) {
@@ -40,10 +24,9 @@ fn say_room(room: &[u8]) {
 }
 
 fn say_ends(out: &[u8]) {
-    let n = out.len();
-    if 0 < n {
-        say(b", first ", wide(out[0]));
-        say(b", last ", wide(out[n - 1]));
+    if let (Some(first), Some(last)) = (out.first(), out.last()) {
+        say(b", first ", usize::from(*first));
+        say(b", last ", usize::from(*last));
     }
 }
 
@@ -56,7 +39,7 @@ fn say_output(out: &[u8]) {
 fn say_read(a: ReadAnswer) {
     match a {
         ReadAnswer::Read(units) => say(b"read ok ", units),
-        ReadAnswer::Refused(e) => say(b"read no ", refusals::number_of(e) as usize),
+        ReadAnswer::Refused(e) => say(b"read no ", usize::from(refusals::number_of(e))),
     }
 }
 
@@ -66,7 +49,7 @@ fn say_written(a: WriteAnswer) {
             say(b"write ok ", n);
             say(b" ", units);
         }
-        WriteAnswer::Refused(e) => say(b"write no ", refusals::number_of(e) as usize),
+        WriteAnswer::Refused(e) => say(b"write no ", usize::from(refusals::number_of(e))),
     }
 }
 
