@@ -157,13 +157,16 @@ module _ (f s : List ℕ) (c : Charges) (ks : Bindings) (name : List ℕ) where
 -- ---- insert
 
 -- the tests that insert makes
-pub inserted_none : (ks : Bindings) (name node : ℕ) → ks.count ≡ 0 → Matched (record { count = 1; name_1 = name; node_1 = node; name_2 = 0; node_2 = 0 }) ≡ inserted ks name node
+inserted_none : (ks : Bindings) (name node : ℕ) → ks.count ≡ 0 → Matched (record { count = 1; name_1 = name; node_1 = node; name_2 = 0; node_2 = 0 }) ≡ inserted ks name node
 unfolding inserted
 inserted_none ks name node e = simp (eq-eqb _ _ e)
 
-pub inserted_one : (ks : Bindings) (name node : ℕ) → (ks.count ≡ 0 → ⊥) → ks.count ≡ 1 → Matched (record { count = 2; name_1 = ks.name_1; node_1 = ks.node_1; name_2 = name; node_2 = node }) ≡ inserted ks name node
+pub inserted_first : (ks o : Bindings) (name node : ℕ) → o ≡ no_bindings → ks.count ≡ 0 → Matched (record { count = 1; name_1 = name; node_1 = node; name_2 = o.name_2; node_2 = o.node_2 }) ≡ inserted ks name node
+inserted_first ks o name node i e = rw i (inserted_none ks name node e)
+
+pub inserted_one : (ks : Bindings) (name node : ℕ) → ks.count ≡ 1 → Matched (record { count = 2; name_1 = ks.name_1; node_1 = ks.node_1; name_2 = name; node_2 = node }) ≡ inserted ks name node
 unfolding inserted
-inserted_one ks name node z e = simp (ne_eqb _ _ z, eq-eqb _ _ e)
+inserted_one ks name node e = let z : ks.count ≡ 0 → ⊥ = λ i. omega arith in simp (ne_eqb _ _ z, eq-eqb _ _ e)
 
 pub inserted_two : (ks : Bindings) (name node : ℕ) → (ks.count ≡ 0 → ⊥) → (ks.count ≡ 1 → ⊥) → TooManyNames ≡ inserted ks name node
 unfolding inserted
@@ -177,7 +180,7 @@ module _ {f s : List ℕ} {c : Charges} (ks : Bindings) {n m : ℕ} (h : Bound f
     where
       go : (k : ℕ) → ks.count ≡ k → match_at f s (inserted ks n m) ≡ meaning.verdict (meaning.insert (binding_at f s n m) (bindings_at f s ks))
       go zero e = rw (← inserted_none ks n m e, e)
-      go (suc zero) e = rw (← inserted_one ks n m (λ z. omega arith) e, e)
+      go (suc zero) e = rw (← inserted_one ks n m e, e)
       go (suc (suc k)) e =
           let w : ks.count ≡ 2 = let v : ks.count ≤ 2 = h.few in omega arith in
           rw (← inserted_two ks n m (λ z. omega arith) (λ z. omega arith), w)
@@ -188,5 +191,5 @@ module _ {f s : List ℕ} {c : Charges} (ks : Bindings) {n m : ℕ} (h : Bound f
     where
       go : (k : ℕ) → ks.count ≡ k → BoundIn f s c (inserted ks n m)
       go zero e = rw (← inserted_none ks n m e) (record { few = omega arith; first_name = a; first_node = r; second_name = nil_named r.held; second_node = ready.nil_ready f s c r.held })
-      go (suc zero) e = rw (← inserted_one ks n m (λ z. omega arith) e) (record { few = omega arith; first_name = h.first_name; first_node = h.first_node; second_name = a; second_node = r })
+      go (suc zero) e = rw (← inserted_one ks n m e) (record { few = omega arith; first_name = h.first_name; first_node = h.first_node; second_name = a; second_node = r })
       go (suc (suc k)) e = rw (← inserted_two ks n m (λ z. omega arith) (λ z. omega arith)) tt

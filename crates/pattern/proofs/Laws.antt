@@ -1,11 +1,14 @@
 -- What each call and each return of the matcher's functions needs. The premises stand in the order: latest call, tests, cells, nodes.
 use Rattle.std.specs.Prelude.{Option as Got, Some, None}
 use mathlib.Core.Path.{◌≡◌, refl, sym, ◌∙◌, ap}
-use mathlib.Core.List.{List, []}
+use mathlib.Core.List.{List, [], ◌∷◌}
 use mathlib.Core.Bool.{Bool, true, false, ◌&&◌, not}
 use mathlib.Core.Option.{Option, none, some}
+use mathlib.Core.Logic.{◌⊎◌, inl, inr}
 use Prim.Native.Nat.{ℕ, ◌<◌}
 use native.Mathlib.Omega.{arith}
+use lib.Dec.{eqb}
+use Rattle.std.specs.Cmp.Lexicographic.{pointwise}
 use Rattle.meaning.specs.Tree.{Tree, atom, pair, same_bytes, equal_to}
 use Rattle.meaning.specs.Match as meaning
 use Rattle.meaning.proofs.Verdict.{is_matched, is_failed, is_third, in_part_verdict}
@@ -107,12 +110,6 @@ module _ (f s : List ℕ) (c : Charges) (ks : Bindings) (z : List ℕ) (n m : �
 
 -- ---- tests
 
-pub both_yes : (a b : Bool) (x y : Bool) → a ≡ x → a ≡ true → b ≡ y → b ≡ (x && y)
-both_yes a b x y e d h = rw (← e, d) h
-
-pub both_no : (a : Bool) (x y : Bool) → a ≡ x → a ≡ false → false ≡ (x && y)
-both_no a x y e d = rw (← e, d)
-
 -- a cell that is some pair, for an arm that binds no parts
 pub record SomePair (q : Cell) : Type 0 where
   pub left : ℕ
@@ -123,8 +120,8 @@ pub some_pair : (q : Cell) (l r : ℕ) → q ≡ Pair l r → SomePair q
 some_pair q l r e = record { left = l; right = r; is = e }
 
 module _ (f s : List ℕ) (a b : ℕ) (u : Bool) (eu : u ≡ is_byte_tree meaning.sexp_match (tree_at f s a)) where
-  pub any_no : u ≡ false → false ≡ takes_any (tree_at f s a) (tree_at f s b)
-  any_no e = trees.any_head (tree_at f s a) (tree_at f s b) (sym e ∙ eu)
+  pub any_no : u ≡ false → u ≡ takes_any (tree_at f s a) (tree_at f s b)
+  any_no e = e ∙ trees.any_head (tree_at f s a) (tree_at f s b) (sym e ∙ eu)
 
   module _ (q : Cell) (eq : q ≡ cell_at s b) where
     pub any_pair : SomePair q → false ≡ takes_any (tree_at f s a) (tree_at f s b)
@@ -253,7 +250,7 @@ module _ {f s s₁ : List ℕ} {c : Charges} {p n a b l r : ℕ} {ks : Bindings}
   whole_any h eu d eq ep eq' ep' rp rn bd = match_as (any_is f s c p n a b l r ks q q' eq ep eq' ep' rp u eu d) h
 
   -- the left part did not match
-  pub whole_not : MatchOk f s s₁ c x (meaning.match_sexp (tree_at f s a) (tree_at f s l) (bindings_at f s ks)) → x ≡ NoMatch → u ≡ takes_any (tree_at f s a) (tree_at f s b) → u ≡ false → q ≡ cell_at s p → q ≡ Pair a b → q' ≡ cell_at s n → q' ≡ Pair l r → Ready f s c p → Ready f s c n → Bound f s c ks → MatchOk f s s₁ c NoMatch (meaning.match_sexp (tree_at f s p) (tree_at f s n) (bindings_at f s ks))
+  whole_not : MatchOk f s s₁ c x (meaning.match_sexp (tree_at f s a) (tree_at f s l) (bindings_at f s ks)) → x ≡ NoMatch → u ≡ takes_any (tree_at f s a) (tree_at f s b) → u ≡ false → q ≡ cell_at s p → q ≡ Pair a b → q' ≡ cell_at s n → q' ≡ Pair l r → Ready f s c p → Ready f s c n → Bound f s c ks → MatchOk f s s₁ c NoMatch (meaning.match_sexp (tree_at f s p) (tree_at f s n) (bindings_at f s ks))
   unfolding match_at BoundIn meaning.verdict
   whole_not h ex eu d eq ep eq' ep' rp rn bd =
       let (ds, e) = is_failed (meaning.match_sexp (tree_at f s a) (tree_at f s l) (bindings_at f s ks)) (rw ex at h.answer) in
@@ -263,7 +260,7 @@ module _ {f s s₁ : List ℕ} {c : Charges} {p n a b l r : ℕ} {ks : Bindings}
         grown = h.grown;
       }
 
-  pub whole_many : MatchOk f s s₁ c x (meaning.match_sexp (tree_at f s a) (tree_at f s l) (bindings_at f s ks)) → x ≡ TooManyNames → u ≡ takes_any (tree_at f s a) (tree_at f s b) → u ≡ false → q ≡ cell_at s p → q ≡ Pair a b → q' ≡ cell_at s n → q' ≡ Pair l r → Ready f s c p → Ready f s c n → Bound f s c ks → MatchOk f s s₁ c TooManyNames (meaning.match_sexp (tree_at f s p) (tree_at f s n) (bindings_at f s ks))
+  whole_many : MatchOk f s s₁ c x (meaning.match_sexp (tree_at f s a) (tree_at f s l) (bindings_at f s ks)) → x ≡ TooManyNames → u ≡ takes_any (tree_at f s a) (tree_at f s b) → u ≡ false → q ≡ cell_at s p → q ≡ Pair a b → q' ≡ cell_at s n → q' ≡ Pair l r → Ready f s c p → Ready f s c n → Bound f s c ks → MatchOk f s s₁ c TooManyNames (meaning.match_sexp (tree_at f s p) (tree_at f s n) (bindings_at f s ks))
   unfolding match_at BoundIn meaning.verdict
   whole_many h ex eu d eq ep eq' ep' rp rn bd =
       let e : meaning.too_many_names ≡ meaning.match_sexp (tree_at f s a) (tree_at f s l) (bindings_at f s ks) = is_third _ (rw ex at h.answer) in
@@ -272,6 +269,14 @@ module _ {f s s₁ : List ℕ} {c : Charges} {p n a b l r : ℕ} {ks : Bindings}
         bound = tt;
         grown = h.grown;
       }
+
+  pub whole_failed : MatchOk f s s₁ c x (meaning.match_sexp (tree_at f s a) (tree_at f s l) (bindings_at f s ks)) → ((js : Bindings) → x ≡ Matched js → ⊥) → u ≡ takes_any (tree_at f s a) (tree_at f s b) → u ≡ false → q ≡ cell_at s p → q ≡ Pair a b → q' ≡ cell_at s n → q' ≡ Pair l r → Ready f s c p → Ready f s c n → Bound f s c ks → MatchOk f s s₁ c x (meaning.match_sexp (tree_at f s p) (tree_at f s n) (bindings_at f s ks))
+  whole_failed h z eu d eq ep eq' ep' rp rn bd = go x refl
+    where
+      go : (y : Match) → x ≡ y → MatchOk f s s₁ c x (meaning.match_sexp (tree_at f s p) (tree_at f s n) (bindings_at f s ks))
+      go (Matched js) e = absurd (z js e)
+      go NoMatch e = rw e (whole_not h e eu d eq ep eq' ep' rp rn bd)
+      go TooManyNames e = rw e (whole_many h e eu d eq ep eq' ep' rp rn bd)
 
   -- it did, and then the right part was matched
   pub whole_both : {s₂ : List ℕ} {y : Match} {js : Bindings} → MatchOk f s₁ s₂ c y (meaning.match_sexp (tree_at f s₁ b) (tree_at f s₁ r) (bindings_at f s₁ js)) → MatchOk f s s₁ c x (meaning.match_sexp (tree_at f s a) (tree_at f s l) (bindings_at f s ks)) → x ≡ Matched js → u ≡ takes_any (tree_at f s a) (tree_at f s b) → u ≡ false → q ≡ cell_at s p → q ≡ Pair a b → q' ≡ cell_at s n → q' ≡ Pair l r → Ready f s c p → Ready f s c n → Bound f s c ks → MatchOk f s s₂ c y (meaning.match_sexp (tree_at f s p) (tree_at f s n) (bindings_at f s ks))
@@ -319,13 +324,18 @@ module _ {f s s₁ : List ℕ} {c : Charges} {a : Match} {m : meaning.Match} whe
   pub got_matched : {g : Got ℕ} {ks : Bindings} (name : List ℕ) → GotOk f s₁ s₁ c g (meaning.get name (bindings_at f s₁ ks)) → MatchOk f s s₁ c a m → a ≡ Matched ks → GotOk f s s₁ c g (meaning.got name m)
   got_matched {g} {ks} name k h e = record { answer = k.answer ∙ got_in h e name; found = k.found; grown = h.grown }
 
-  pub got_no_match : (name : List ℕ) → MatchOk f s s₁ c a m → a ≡ NoMatch → GotOk f s s₁ c None (meaning.got name m)
+  pub got_failed : (name : List ℕ) → MatchOk f s s₁ c a m → (a ≡ NoMatch) ⊎ (a ≡ TooManyNames) → GotOk f s s₁ c None (meaning.got name m)
   unfolding got_at GotIn
-  got_no_match name h e = record { answer = got_not h e name; found = tt; grown = h.grown }
+  got_failed name h (inl e) = record { answer = got_not h e name; found = tt; grown = h.grown }
+  got_failed name h (inr e) = record { answer = got_many h e name; found = tt; grown = h.grown }
 
-  pub got_too_many : (name : List ℕ) → MatchOk f s s₁ c a m → a ≡ TooManyNames → GotOk f s s₁ c None (meaning.got name m)
-  unfolding got_at GotIn
-  got_too_many name h e = record { answer = got_many h e name; found = tt; grown = h.grown }
+-- the two tests of bytes are one
+bytes_tested : (x y : List ℕ) → pointwise eqb x y ≡ same_bytes x y
+unfolding same_bytes
+bytes_tested [] [] = refl
+bytes_tested [] (b ∷ y) = refl
+bytes_tested (a ∷ x) [] = refl
+bytes_tested (a ∷ x) (b ∷ y) = ap (eqb a b &&◌) (bytes_tested x y)
 
-pub bytes_alike : (x y z : List ℕ) (u : Bool) → u ≡ same_bytes x z → z ≡ y → u ≡ same_bytes x y
-bytes_alike x y z u e ez = rw (← ez) e
+pub bytes_alike : (x y z : List ℕ) (u : Bool) → u ≡ pointwise eqb x z → z ≡ y → u ≡ same_bytes x y
+bytes_alike x y z u e ez = e ∙ rw ez (bytes_tested x y)

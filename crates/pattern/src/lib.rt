@@ -48,8 +48,7 @@ fn same_name<'a>(form: &'a [u8], room: &'a [u8], n: usize, name: &'a [u8]) -> bo
     requires { Room room.now n }
     ensures { result ≡ same_bytes name.now (bytes_at form.now room.now n) }
 {
-    let b = store::atom_bytes(form, room, n);
-    sexp::same_bytes(name, b)
+    name == store::atom_bytes(form, room, n)
 }
 
 // Rust's `bindings.get`: what a name is bound to.
@@ -82,24 +81,21 @@ pub fn get<'a>(
 fn insert(ks: Bindings, name: usize, node: usize) -> Match
     ensures { result ≡ inserted ks name node }
 {
-    if ks.count == 0 {
-        return Match::Matched(Bindings {
+    match ks.count {
+        0 => Match::Matched(Bindings {
             count: 1,
             name_1: name,
             node_1: node,
-            name_2: 0,
-            node_2: 0,
-        });
-    }
-    if ks.count == 1 {
-        return Match::Matched(Bindings {
+            ..no_bindings()
+        }),
+        1 => Match::Matched(Bindings {
             count: 2,
             name_2: name,
             node_2: node,
             ..ks
-        });
+        }),
+        _ => Match::TooManyNames,
     }
-    Match::TooManyNames
 }
 
 // A name that is known must be bound to an equal tree; one that is not is bound now.
@@ -133,25 +129,16 @@ pub fn takes_any<'a>(form: &'a [u8], room: &'a [u8], a: usize, b: usize) -> bool
     requires { Room room.now a × Room room.now b }
     ensures { result ≡ takes_any (tree_in form.now room.now a) (tree_in form.now room.now b) }
 {
-    if sexp::is_byte_node(form, room, a, b':') {
-        match store::look_node(room, b) {
-            Cell::Pair(_, _) => false,
-            Cell::Atom => !sexp::is_byte_node(form, room, b, b':'),
-        }
-    } else {
-        false
-    }
+    sexp::is_byte_node(form, room, a, b':')
+        && matches!(store::look_node(room, b), Cell::Atom)
+        && !sexp::is_byte_node(form, room, b, b':')
 }
 
 fn both_bytes<'a>(form: &'a [u8], room: &'a [u8], x: usize, y: usize, k: u8) -> bool
     requires { Room room.now x × Room room.now y }
     ensures { result ≡ (is_byte_tree k (tree_in form.now room.now x) && is_byte_tree k (tree_in form.now room.now y)) }
 {
-    if sexp::is_byte_node(form, room, x, k) {
-        sexp::is_byte_node(form, room, y, k)
-    } else {
-        false
-    }
+    sexp::is_byte_node(form, room, x, k) && sexp::is_byte_node(form, room, y, k)
 }
 
 // The pattern is the atom p.
@@ -242,8 +229,7 @@ pub fn match_node(
                 } else {
                     match match_node(form, room, ch, a, l, ks) {
                         Match::Matched(js) => match_node(form, room, ch, b, r, js),
-                        Match::NoMatch => Match::NoMatch,
-                        Match::TooManyNames => Match::TooManyNames,
+                        failed => failed,
                     }
                 }
             }
@@ -273,7 +259,6 @@ pub fn got_node<'a>(
 {
     match matched_node(form, room, ch, p, s) {
         Match::Matched(ks) => get(form, room, ch, ks, name),
-        Match::NoMatch => None,
-        Match::TooManyNames => None,
+        Match::NoMatch | Match::TooManyNames => None,
     }
 }

@@ -7,9 +7,6 @@ use Rattle.pattern.proofs.+match_node.Goals as goal
 pub look_node-requires : goal.look_node-requires
 look_node-requires t c = search room
 
-pub match_atom-requires : goal.match_atom-requires
-match_atom-requires t c = (search laws.name_here, search rules, search rules)
-
 pub look_node-requires-in-Pair : goal.look_node-requires-in-Pair
 look_node-requires-in-Pair t c = search room
 
@@ -37,8 +34,5 @@ returns-then-takes_any t c = laws.whole_any c.unify_bindings.ensures c.takes_any
 pub returns-in-Matched : goal.returns-in-Matched
 returns-in-Matched t c = laws.whole_both c.match_node-in-Matched.ensures c.match_node.ensures c.in-Matched.is c.takes_any.ensures (search rules) c.look_node.ensures c.in-Pair.is c.look_node-in-Pair.ensures c.in-Pair-look_node.is c.requires.0 c.requires.1 c.requires.2
 
-pub returns-in-NoMatch : goal.returns-in-NoMatch
-returns-in-NoMatch t c = laws.whole_not c.match_node.ensures (search rules) c.takes_any.ensures (search rules) c.look_node.ensures c.in-Pair.is c.look_node-in-Pair.ensures c.in-Pair-look_node.is c.requires.0 c.requires.1 c.requires.2
-
-pub returns-in-TooManyNames : goal.returns-in-TooManyNames
-returns-in-TooManyNames t c = laws.whole_many c.match_node.ensures (search rules) c.takes_any.ensures (search rules) c.look_node.ensures c.in-Pair.is c.look_node-in-Pair.ensures c.in-Pair-look_node.is c.requires.0 c.requires.1 c.requires.2
+pub returns-in_default : goal.returns-in_default
+returns-in_default t c = laws.whole_failed c.match_node.ensures c.in_default.not-Matched c.takes_any.ensures (search rules) c.look_node.ensures c.in-Pair.is c.look_node-in-Pair.ensures c.in-Pair-look_node.is c.requires.0 c.requires.1 c.requires.2

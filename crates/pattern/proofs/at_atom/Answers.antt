@@ -1,5 +1,4 @@
 -- at_atom: one law for each way.
-use borrow.Author.Rules.{rules}
 use Rattle.store.proofs.Ready.{room}
 use Rattle.pattern.proofs.Kept as kept
 use Rattle.pattern.proofs.Laws as laws
@@ -17,17 +16,11 @@ is_byte_node-requires-then-is_byte_node c = search room
 pub is_byte_node-requires-then-is_byte_node-2 : goal.is_byte_node-requires-then-is_byte_node-2
 is_byte_node-requires-then-is_byte_node-2 c = search kept.named_room
 
-pub unify_bindings-requires : goal.unify_bindings-requires
-unify_bindings-requires c = (search rules, search laws.name_here, search rules)
-
 pub is_byte_node-requires-else-is_byte_node : goal.is_byte_node-requires-else-is_byte_node
 is_byte_node-requires-else-is_byte_node c = search room
 
 pub both_bytes-requires : goal.both_bytes-requires
 both_bytes-requires c = (search room, search kept.named_room)
-
-pub unify_bindings-requires-else-both_bytes : goal.unify_bindings-requires-else-both_bytes
-unify_bindings-requires-else-both_bytes c = (search rules, search laws.name_here, search rules)
 
 pub returns-in-Pair : goal.returns-in-Pair
 returns-in-Pair c = search (laws.at_pair, laws.some_pair)

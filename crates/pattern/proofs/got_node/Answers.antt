@@ -9,7 +9,4 @@ pub returns-in-Matched : goal.returns-in-Matched
 returns-in-Matched c = search laws.got_matched
 
 pub returns-in-NoMatch : goal.returns-in-NoMatch
-returns-in-NoMatch c = search laws.got_no_match
-
-pub returns-in-TooManyNames : goal.returns-in-TooManyNames
-returns-in-TooManyNames c = search laws.got_too_many
+returns-in-NoMatch c = search laws.got_failed

@@ -2,11 +2,11 @@
 use Rattle.pattern.proofs.Kept as kept
 use Rattle.pattern.proofs.insert.Goals as goal
 
-pub returns-then-ks-eq0 : goal.returns-then-ks-eq0
-returns-then-ks-eq0 c = search kept.inserted_none
+pub returns-in-0 : goal.returns-in-0
+returns-in-0 c = search kept.inserted_first
 
-pub returns-then-ks-eq1 : goal.returns-then-ks-eq1
-returns-then-ks-eq1 c = search kept.inserted_one
+pub returns-in-1 : goal.returns-in-1
+returns-in-1 c = search kept.inserted_one
 
-pub returns : goal.returns
-returns c = search kept.inserted_two
+pub returns-in_default : goal.returns-in_default
+returns-in_default c = search kept.inserted_two
