@@ -101,6 +101,13 @@ module _ {f s s₁ : List ℕ} {c : Charges} {k : ℕ} {t : Tree} {l : Bool} {x 
   sub_then s₂ k' t' l' (sub.Done y) g = record { bought = bought_then h.bought g.bought; low = g.low }
   sub_then s₂ k' t' l' (sub.Refused r) g = over_then h.bought g
 
+-- what `a || b` comes to, by a
+pub low_first : (a b : Bool) → a ≡ true → true ≡ (a || b)
+low_first a b e = rw e refl
+
+pub low_second : (a b : Bool) → a ≡ false → b ≡ (a || b)
+low_second a b e = rw e refl
+
 pub made_sub : (f s s' : List ℕ) (c : Charges) (k : ℕ) (t : Tree) (l : Bool) (m : Made) → MadeOk f s s' c k t m → SubOk f s s' c k t l (sub_made l m)
 unfolding MadeOk SubOk
 made_sub f s s' c k t l (Node n d) h = record { bought = h; low = refl }

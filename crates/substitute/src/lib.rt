@@ -40,8 +40,7 @@ fn call_node(form: &[u8], room: &mut [u8], ch: Charges, o: u8, args: usize) -> M
     requires { Ready form.now room.old ch args }
     ensures { MadeOk form.now room.old room.new ch (5 + (pair_cost + pair_cost)) (pair (byte o) (pair (tree_in form.now room.old args) nil)) result }
 {
-    let b = [o; 1];
-    match store::atom_node(form, room, ch, &b) {
+    match store::atom_node(form, room, ch, &[o]) {
         Made::Refused(e) => Made::Refused(e),
         Made::Node(f, c) => match store::pair_node(form, room, c, args, 0) {
             Made::Refused(e) => Made::Refused(e),
@@ -96,7 +95,7 @@ fn cons_node(
 // ---- `path_from_args`
 
 // How many turns substitution takes at the atom n.
-fn count_turns<'a>(form: &'a [u8], room: &'a [u8], ch: Charges, n: usize) -> usize
+fn count_turns(form: &[u8], room: &[u8], ch: Charges, n: usize) -> usize
     requires { Named form.now room.now ch n }
     ensures { result ≡ length (sub_turns (bytes_at form.now room.now n)) }
 {
@@ -104,7 +103,7 @@ fn count_turns<'a>(form: &'a [u8], room: &'a [u8], ch: Charges, n: usize) -> usi
 }
 
 // Its turn number i.
-fn turn_at<'a>(form: &'a [u8], room: &'a [u8], n: usize, i: usize) -> bool
+fn turn_at(form: &[u8], room: &[u8], n: usize, i: usize) -> bool
     requires { Room room.now n × (i < length (sub_turns (bytes_at form.now room.now n))) }
     ensures { result ≡ get_or (sub_turns (bytes_at form.now room.now n)) i false }
 {
@@ -126,17 +125,13 @@ fn path_from_args(
     let count = count_turns(form, room, ch, n);
     let mut c = ch;
     let mut a = args;
-    let mut i: usize = 0;
-    while i < count {
+    for i in 0..count {
         let right = turn_at(form, room, n, i);
         match cons_node(form, room, cons, c, a, right) {
-            Made::Refused(e) => {
-                return Made::Refused(e);
-            }
+            Made::Refused(e) => return Made::Refused(e),
             Made::Node(m, d) => {
                 a = m;
                 c = d;
-                i += 1;
             }
         }
     }
@@ -151,21 +146,11 @@ fn made(low: bool, m: Made) -> Sub
 {
     match m {
         Made::Refused(e) => Sub::Refused(e),
-        Made::Node(n, c) => Sub::Done(Substituted {
-            ch: c,
-            low: low,
-            node: n,
-        }),
+        Made::Node(node, ch) => Sub::Done(Substituted { ch, low, node }),
     }
 }
 
-fn either(a: bool, b: bool) -> bool
-    ensures { result ≡ (a || b) }
-{
-    if a { true } else { b }
-}
-
-fn low_node<'a>(form: &'a [u8], room: &'a [u8], n: usize) -> bool
+fn low_node(form: &[u8], room: &[u8], n: usize) -> bool
     requires { Room room.now n }
     ensures { result ≡ is_low (bytes_at form.now room.now n) }
 {
@@ -189,7 +174,7 @@ fn sub_head(form: &[u8], room: &mut [u8], cons: usize, ch: Charges, f: usize, ar
 {
     match store::look_node(room, f) {
         Cell::Atom => Sub::Done(Substituted {
-            ch: ch,
+            ch,
             low: false,
             node: f,
         }),
@@ -216,15 +201,14 @@ fn sub_list(
         match sub_each(form, room, cons, ch, rest, args) {
             Sub::Refused(e) => Sub::Refused(e),
             Sub::Done(t) => {
-                let c = t.ch;
-                let l = either(low, t.low);
-                made(l, store::pair_node(form, room, c, first, t.node))
+                let low = low || t.low;
+                made(low, store::pair_node(form, room, t.ch, first, t.node))
             }
         }
     } else {
         Sub::Done(Substituted {
-            ch: ch,
-            low: low,
+            ch,
+            low,
             node: args,
         })
     }
@@ -238,23 +222,19 @@ fn sub_each(form: &[u8], room: &mut [u8], cons: usize, ch: Charges, list: usize,
 {
     match store::look_node(room, list) {
         Cell::Atom => Sub::Done(Substituted {
-            ch: ch,
+            ch,
             low: false,
             node: list,
         }),
         Cell::Pair(l, r) => match sub_body(form, room, cons, ch, l, args) {
             Sub::Refused(e) => Sub::Refused(e),
-            Sub::Done(x) => {
-                let c = x.ch;
-                match sub_each(form, room, cons, c, r, args) {
-                    Sub::Refused(e) => Sub::Refused(e),
-                    Sub::Done(y) => {
-                        let d = y.ch;
-                        let low = either(x.low, y.low);
-                        made(low, store::pair_node(form, room, d, x.node, y.node))
-                    }
+            Sub::Done(x) => match sub_each(form, room, cons, x.ch, r, args) {
+                Sub::Refused(e) => Sub::Refused(e),
+                Sub::Done(y) => {
+                    let low = x.low || y.low;
+                    made(low, store::pair_node(form, room, y.ch, x.node, y.node))
                 }
-            }
+            },
         },
     }
 }
@@ -271,17 +251,14 @@ fn sub_body(form: &[u8], room: &mut [u8], cons: usize, ch: Charges, body: usize,
         Cell::Pair(f, rest) => {
             if sexp::is_byte_node(form, room, f, 1) {
                 return Sub::Done(Substituted {
-                    ch: ch,
+                    ch,
                     low: false,
                     node: body,
                 });
             }
             match sub_head(form, room, cons, ch, f, args) {
                 Sub::Refused(e) => Sub::Refused(e),
-                Sub::Done(x) => {
-                    let c = x.ch;
-                    sub_list(form, room, cons, c, x.node, x.low, rest, args)
-                }
+                Sub::Done(x) => { sub_list(form, room, cons, x.ch, x.node, x.low, rest, args) }
             }
         }
     }

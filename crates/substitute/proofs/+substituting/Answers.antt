@@ -2,7 +2,10 @@
 use borrow.Author.Rules.{rules}
 use Rattle.store.proofs.Ready.{room, room_left, ready_left, ready_right}
 use Rattle.substitute.proofs.Answers as answers
+use mathlib.Core.Bool.{◌||◌}
+use mathlib.Core.Path.{◌≡◌}
 use Rattle.substitute.proofs.+substituting.Goals as goal
+use Rattle.substitute.proofs.+substituting.Goals.{sub_each-then-x, sub_each-else-x, sub_list-then-low, sub_list-else-low}
 
 pub sub_body-look_node-requires : goal.sub_body-look_node-requires
 sub_body-look_node-requires t c = search room
@@ -49,8 +52,10 @@ sub_each-returns-in-Refused t c = answers.each_stops _ _ _ _ _ _ _ c.look_node.e
 pub sub_each-returns-in-Refused-sub_each : goal.sub_each-returns-in-Refused-sub_each
 sub_each-returns-in-Refused-sub_each t c = answers.each_stops_2 _ _ _ _ _ _ _ c.look_node.ensures (answers.left_pair _ _ _ c.in-Pair.is) c.requires.0 _ _ c.sub_body.ensures _ c.in-Done.is _ _ c.sub_each.ensures c.requires.1 _ c.in-Refused-sub_each.is
 
-pub sub_each-returns-in-Done-sub_each : goal.sub_each-returns-in-Done-sub_each
-sub_each-returns-in-Done-sub_each t c = answers.each_made _ _ _ _ _ _ _ c.look_node.ensures (answers.left_pair _ _ _ c.in-Pair.is) c.requires.0 _ _ c.sub_body.ensures _ c.in-Done.is _ _ c.sub_each.ensures c.requires.1 _ c.in-Done-sub_each.is _ _ _ _ c.pair_node.ensures c.either-low.ensures c.made.ensures
+pub sub_each-returns-after-x : goal.sub_each-returns-after-x
+sub_each-returns-after-x t c =
+    let low : c.if-x.low ≡ (c.in-Done.x.low || c.in-Done-sub_each.y.low) = elim c.if-x.branch [ sub_each-then-x w ↦ cc (answers.low_first c.in-Done.x.low c.in-Done-sub_each.y.low w.if-x.true) | sub_each-else-x w ↦ cc (answers.low_second c.in-Done.x.low c.in-Done-sub_each.y.low w.if-x.false) ] in
+    answers.each_made _ _ _ _ _ _ _ c.look_node.ensures (answers.left_pair _ _ _ c.in-Pair.is) c.requires.0 _ _ c.sub_body.ensures _ c.in-Done.is _ _ c.sub_each.ensures c.requires.1 _ c.in-Done-sub_each.is _ _ _ _ c.pair_node.ensures low c.made.ensures
 
 pub sub_head-look_node-requires : goal.sub_head-look_node-requires
 sub_head-look_node-requires t c = search room
@@ -76,8 +81,10 @@ sub_list-pair_node-requires t c = (answers.done_old (answers.sub_done _ _ _ _ _ 
 pub sub_list-returns-in-Refused : goal.sub_list-returns-in-Refused
 sub_list-returns-in-Refused t c = answers.list_stops _ _ _ _ _ _ _ _ c.proper_list_node.ensures (search rules) _ _ c.sub_each.ensures _ c.in-Refused.is
 
-pub sub_list-returns-in-Done : goal.sub_list-returns-in-Done
-sub_list-returns-in-Done t c = answers.list_made _ _ _ _ _ _ _ _ c.proper_list_node.ensures (search rules) _ _ c.sub_each.ensures _ c.in-Done.is _ _ _ _ c.pair_node.ensures c.either-l.ensures c.made.ensures c.requires.0
+pub sub_list-returns-after-low : goal.sub_list-returns-after-low
+sub_list-returns-after-low t c =
+    let low : c.if-low.low ≡ (c.args.low || c.in-Done.t.low) = elim c.if-low.branch [ sub_list-then-low w ↦ cc (answers.low_first c.args.low c.in-Done.t.low w.if-low.true) | sub_list-else-low w ↦ cc (answers.low_second c.args.low c.in-Done.t.low w.if-low.false) ] in
+    answers.list_made _ _ _ _ _ _ _ _ c.proper_list_node.ensures (search rules) _ _ c.sub_each.ensures _ c.in-Done.is _ _ _ _ c.pair_node.ensures low c.made.ensures c.requires.0
 
 pub sub_list-returns-else-proper_list_node : goal.sub_list-returns-else-proper_list_node
 sub_list-returns-else-proper_list_node t c = search answers.list_improper

@@ -1,10 +1,6 @@
 -- path_from_args: an answer for each need; what carries weight stands in the laws.
-use Prim.Native.Nat.{◌-◌}
 use Rattle.substitute.proofs.Turns as turns
 use Rattle.substitute.proofs.path_from_args.Given as goal
 
 abbrev pub invariant-loop-i : goal.invariant-loop-i
 invariant-loop-i l = turns.Walking l.form l.initial.room l.room l.initial.c l.c l.n l.args l.count l.a l.i
-
-abbrev pub decreases-loop-i : goal.decreases-loop-i
-decreases-loop-i l = l.count - l.i
