@@ -1,4 +1,5 @@
 -- operands: what holds at its loop's head, and each need there. Assumes nothing.
+use Rattle.std.specs.Prelude.{Result, Ok, Err, Option as Perhaps, Some, None}
 use mathlib.Core.Path.{◌≡◌, refl, sym, ◌∙◌, ap, subst}
 use mathlib.Core.List.{List}
 use mathlib.Core.Bool.{Bool, true, false, ◌||◌, not, or-false}
@@ -37,7 +38,6 @@ use Rattle.run_state.specs.declared.Work.{Work}
 use Rattle.run_state.specs.Work.{spent_of, with_last, SameAs, ChangedTo, Did}
 use Rattle.run_state.proofs.Does.{says_same, says_changed, says_stopped}
 use Rattle.driver_parts.specs.declared.Element.{Element}
-use Rattle.driver_parts.specs.declared.Element.TheVariants.{Put, Refused}
 use Rattle.driver_parts.specs.Turns.{again, Fine}
 use Rattle.driver_parts.specs.Walk.{test_of, walk, made_list, sets_flag, wrap, MadeAt, Walked, Puttable, PutBefore, Stands, Became}
 use Rattle.driver_parts.proofs.Saying.{walked_none, walked_made, walked_stopped, walk_none, walk_stopped, walk_stops, walks_on}
@@ -346,21 +346,21 @@ module _ (f : List ℕ) (p : Patterns) (nest list : ℕ) (count flag : Bool) (ro
           go (Changed m) e = (to m e).ready
           go (Stopped u) e = tt
 
-      module _ (z : Element) (y : Became f r₁ h count seen z w₁.last) where
-        pub elem_put : (m : ℕ) (b : Bool) → z ≡ Put m b → k < 48 → Chunk f p nest list count flag room₀ w₀ r₁ w₁ t b (set got k m) (k + 1)
+      module _ (z : Perhaps Element) (y : Became f r₁ h count seen z w₁.last) where
+        pub elem_put : (v : Element) → z ≡ Some v → k < 48 → Chunk f p nest list count flag room₀ w₀ r₁ w₁ t v.flag (set got k v.node) (k + 1)
         unfolding Became
-        elem_put m b ez lk = go w₁.last refl (subst (λ (a : Element). Became f r₁ h count seen a w₁.last) ez y)
+        elem_put v ez lk = go w₁.last refl (subst (λ (a : Perhaps Element). Became f r₁ h count seen a w₁.last) ez y)
           where
-            go : (o : Outcome) → w₁.last ≡ o → Became f r₁ h count seen (Put m b) o → Chunk f p nest list count flag room₀ w₀ r₁ w₁ t b (set got k m) (k + 1)
-            go Same e q = rw q.node (same_again e b q.sets lk)
-            go (Changed n) e q = rw q.node (changed_again n e b q.sets lk)
+            go : (o : Outcome) → w₁.last ≡ o → Became f r₁ h count seen (Some v) o → Chunk f p nest list count flag room₀ w₀ r₁ w₁ t v.flag (set got k v.node) (k + 1)
+            go Same e q = rw q.node (same_again e v.flag q.sets lk)
+            go (Changed n) e q = rw q.node (changed_again n e v.flag q.sets lk)
             go (Stopped u) e q = absurd q
 
-        pub elem_refused : z ≡ Refused → Walked f room₀ r₁ w₀ (walk count (again nest) flag (tree_at f room₀ list) (spent_of w₀)) w₁
+        pub elem_refused : z ≡ None → Walked f room₀ r₁ w₀ (walk count (again nest) flag (tree_at f room₀ list) (spent_of w₀)) w₁
         unfolding Became
-        elem_refused ez = go w₁.last refl (subst (λ (a : Element). Became f r₁ h count seen a w₁.last) ez y)
+        elem_refused ez = go w₁.last refl (subst (λ (a : Perhaps Element). Became f r₁ h count seen a w₁.last) ez y)
           where
-            go : (o : Outcome) → w₁.last ≡ o → Became f r₁ h count seen Refused o → Walked f room₀ r₁ w₀ (walk count (again nest) flag (tree_at f room₀ list) (spent_of w₀)) w₁
+            go : (o : Outcome) → w₁.last ≡ o → Became f r₁ h count seen None o → Walked f room₀ r₁ w₀ (walk count (again nest) flag (tree_at f room₀ list) (spent_of w₀)) w₁
             go Same e q = absurd q
             go (Changed n) e q = absurd q
             go (Stopped u) e q = elem_stop u e

@@ -1,4 +1,5 @@
 -- put_before and worked_into, by what the work says. Assumes nothing.
+use Rattle.std.specs.Prelude.{Result, Ok, Err, Option as Perhaps, Some, None}
 use mathlib.Core.Path.{◌≡◌, refl, sym, subst}
 use mathlib.Core.List.{List}
 use mathlib.Core.Bool.{Bool, true, false, ◌||◌}
@@ -14,7 +15,6 @@ use Rattle.sexp.specs.Lists.{Items}
 use Rattle.run_state.specs.declared.Outcome.TheVariants.{Same, Changed, Stopped}
 use Rattle.run_state.specs.declared.Work.{Work}
 use Rattle.run_state.specs.Work.{spent_of}
-use Rattle.driver_parts.specs.declared.Element.TheVariants.{Put, Refused}
 use Rattle.driver_parts.specs.Walk.{sets_flag, wrap, Walked, Puttable, PutBefore, Stands, Became}
 
 -- ---- put_before
@@ -69,14 +69,14 @@ module _ (f s : List ℕ) (w : Work) (h : ℕ) where
       move_room = room f s w.ch m moves
 
   module _ (count flag : Bool) where
-    pub became_changed : (b : Bool) (m : ℕ) → b ≡ (flag || sets_flag count true (tree_at f s m)) → w.last ≡ Changed m → Became f s h count flag (Put m b) w.last
+    pub became_changed : (b : Bool) (m : ℕ) → b ≡ (flag || sets_flag count true (tree_at f s m)) → w.last ≡ Changed m → Became f s h count flag (Some (record { node = m; flag = b })) w.last
     unfolding Became
-    became_changed b m eb e = subst (Became f s h count flag (Put m b)) (sym e) (record { node = refl; sets = eb })
+    became_changed b m eb e = subst (Became f s h count flag (Some (record { node = m; flag = b }))) (sym e) (record { node = refl; sets = eb })
 
-    pub became_same : (b : Bool) → b ≡ (flag || sets_flag count false (tree_at f s h)) → w.last ≡ Same → Became f s h count flag (Put h b) w.last
+    pub became_same : (b : Bool) → b ≡ (flag || sets_flag count false (tree_at f s h)) → w.last ≡ Same → Became f s h count flag (Some (record { node = h; flag = b })) w.last
     unfolding Became
-    became_same b eb e = subst (Became f s h count flag (Put h b)) (sym e) (record { node = refl; sets = eb })
+    became_same b eb e = subst (Became f s h count flag (Some (record { node = h; flag = b }))) (sym e) (record { node = refl; sets = eb })
 
-    pub became_refused : (u : Refusal) → w.last ≡ Stopped u → Became f s h count flag Refused w.last
+    pub became_refused : (u : Refusal) → w.last ≡ Stopped u → Became f s h count flag None w.last
     unfolding Became
-    became_refused u e = subst (Became f s h count flag Refused) (sym e) tt
+    became_refused u e = subst (Became f s h count flag None) (sym e) tt

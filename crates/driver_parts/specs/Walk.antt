@@ -1,4 +1,5 @@
 -- The walk over a list that rules 4 and 5 share, and what it says.
+use Rattle.std.specs.Prelude.{Result, Ok, Err, Option as Perhaps, Some, None}
 use Rattle.std.specs.Prelude.{ℕ, zero, suc, ◌≡◌, List, Bool, true, false, not, ◌||◌, get_or}
 use Rattle.std.proofs.Math.Option.{Option, none, some}
 use Rattle.refusals.specs.declared.Refusal.{Refusal}
@@ -15,7 +16,6 @@ use Rattle.run_state.specs.declared.Work.{Work}
 use Rattle.run_state.specs.Work.{spent_of}
 use Rattle.sexp.specs.Lists.{Items}
 use Rattle.driver_parts.specs.declared.Element.{Element}
-use Rattle.driver_parts.specs.declared.Element.TheVariants.{Put, Refused}
 use Rattle.driver_parts.specs.Turns.{Unmoved}
 
 -- what sets the flag: in rule 4 (count) that an operand counts, in rule 5 that an element differs
@@ -98,10 +98,10 @@ pub record BecameAt (f s : List ℕ) (m n : ℕ) (count moved flag b : Bool) : T
   pub node : n ≡ m
   pub sets : b ≡ (flag || sets_flag count moved (tree_at f s m))
 
-unfoldable pub Became : List ℕ → List ℕ → ℕ → Bool → Bool → Element → Outcome → Type 0
-Became f s h count flag (Put n b) Same = BecameAt f s h n count false flag b
-Became f s h count flag (Put n b) (Changed m) = BecameAt f s m n count true flag b
-Became f s h count flag (Put n b) (Stopped e) = ⊥
-Became f s h count flag Refused Same = ⊥
-Became f s h count flag Refused (Changed m) = ⊥
-Became f s h count flag Refused (Stopped e) = Unit
+unfoldable pub Became : List ℕ → List ℕ → ℕ → Bool → Bool → Perhaps Element → Outcome → Type 0
+Became f s h count flag (Some a) Same = BecameAt f s h a.node count false flag a.flag
+Became f s h count flag (Some a) (Changed m) = BecameAt f s m a.node count true flag a.flag
+Became f s h count flag (Some a) (Stopped e) = ⊥
+Became f s h count flag None Same = ⊥
+Became f s h count flag None (Changed m) = ⊥
+Became f s h count flag None (Stopped e) = Unit

@@ -21,11 +21,11 @@ use store::Cell;
 
 // ---- the walk over a list
 
-// What became of an element: its node and the flag after it, or a refusal.
+// What an element became: its node, and the flag after it.
 #[derive(Clone, Copy)]
-pub enum Element {
-    Put(u16, bool),
-    Refused,
+pub struct Element {
+    pub node: u16,
+    pub flag: bool,
 }
 
 // An operand that `non_constant_count` counts: a pair headed by an atom other than the byte 1.
@@ -87,8 +87,7 @@ pub fn build(
     if !make {
         return run_state::with(w, Outcome::Same);
     }
-    let ch = w.ch;
-    let m = sexp::enlist_node(form, room, ch, &got, k, tail);
+    let m = sexp::enlist_node(form, room, w.ch, &got, k, tail);
     run_state::put(w, m)
 }
 
@@ -97,15 +96,14 @@ pub fn put_before(form: &[u8], room: &mut [u8], w: Work, got: [u16; 48], k: usiz
     requires { Puttable form.now room.old w got k w.last }
     ensures { PutBefore form.now room.old room.new w got k result w.last }
 {
-    let o = w.last;
-    match o {
+    match w.last {
         Outcome::Changed(m) => build(form, room, w, got, k, m, true),
         Outcome::Same => w,
         Outcome::Stopped(_) => w,
     }
 }
 
-// What became of the element h, as w says, and the flag after it.
+// What the element h became, as w says; nothing where it was refused.
 pub fn worked_into<'a>(
     form: &'a [u8],
     room: &'a [u8],
@@ -113,15 +111,20 @@ pub fn worked_into<'a>(
     h: usize,
     count: bool,
     flag: bool,
-) -> Element
+) -> Option<Element>
     requires { Stands form.now room.now w h w.last }
     ensures { Became form.now room.now h count flag result w.last }
 {
-    let o = w.last;
-    match o {
-        Outcome::Changed(m) => Element::Put(m as u16, flag_after(form, room, m, count, true, flag)),
-        Outcome::Same => Element::Put(h as u16, flag_after(form, room, h, count, false, flag)),
-        Outcome::Stopped(_) => Element::Refused,
+    match w.last {
+        Outcome::Changed(m) => Some(Element {
+            node: m as u16,
+            flag: flag_after(form, room, m, count, true, flag),
+        }),
+        Outcome::Same => Some(Element {
+            node: h as u16,
+            flag: flag_after(form, room, h, count, false, flag),
+        }),
+        Outcome::Stopped(_) => None,
     }
 }
 
@@ -132,9 +135,8 @@ fn keep(form: &[u8], room: &mut [u8], w: Work, r: usize, m: usize, low: bool) ->
     requires { Ready form.now room.old w.ch r × Ready form.now room.old w.ch m }
     ensures { Did form.now room.old room.new w (tree_in form.now room.old r) (kept low (tree_in form.now room.old m) (spent_of w)) result }
 {
-    let ch = w.ch;
     let k = run_state::marked(w, low);
-    if sexp::equal_node(form, room, ch, r, m) {
+    if sexp::equal_node(form, room, w.ch, r, m) {
         return run_state::with(k, Outcome::Same);
     }
     run_state::with(k, Outcome::Changed(m))
@@ -145,8 +147,7 @@ pub fn keep_body(form: &[u8], room: &mut [u8], w: Work, r: usize, new: usize, lo
     requires { Keepable form.now room.old w r new w.last }
     ensures { KeptBody form.now room.old room.new w r new low result w.last }
 {
-    let o = w.last;
-    match o {
+    match w.last {
         Outcome::Stopped(_) => w,
         Outcome::Same => keep(form, room, w, r, new, low),
         Outcome::Changed(m) => keep(form, room, w, r, m, low),
@@ -158,8 +159,7 @@ pub fn keep_list(form: &[u8], room: &mut [u8], w: Work, r: usize, low: bool) -> 
     requires { Listable form.now room.old w r w.last }
     ensures { KeptList form.now room.old room.new w r low result w.last }
 {
-    let o = w.last;
-    match o {
+    match w.last {
         Outcome::Stopped(_) => w,
         Outcome::Same => w,
         Outcome::Changed(m) => keep(form, room, w, r, m, low),
@@ -204,12 +204,10 @@ pub fn begin<'a>(form: &'a [u8], room: &'a [u8], w: Work, n: usize) -> Work
             if 65536 <= w.passes {
                 return run_state::with(w, Outcome::Stopped(Refusal::PassesOut));
             }
-            let c = w.ch;
             Work {
-                ch: c,
                 passes: w.passes + 1,
-                mark: w.mark,
                 last: Outcome::Same,
+                ..w
             }
         }
     }
