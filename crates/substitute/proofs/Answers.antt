@@ -1,4 +1,5 @@
 -- What each call and each return of substitution needs. Assumes nothing.
+use Rattle.std.specs.Prelude.{Result, Ok, Err, Option as Got, Some, None}
 use Prim.Native.Nat.{ℕ, ◌+◌, ◌*◌, ◌<◌}
 use native.Mathlib.Omega.{arith}
 use native.Mathlib.Nat.{add_comm, zero-add}
@@ -13,7 +14,6 @@ use Rattle.store.specs.declared.Cell.{Cell}
 use Rattle.store.specs.declared.Cell.TheVariants.{Pair, Atom}
 use Rattle.store.specs.declared.Charges.{Charges}
 use Rattle.store.specs.declared.Made.{Made}
-use Rattle.store.specs.declared.Made.TheVariants.{Node, Refused}
 use Rattle.store.specs.Cells.{cell_at, bytes_at}
 use Rattle.store.specs.Nodes.{tree_at}
 use Rattle.store.specs.Store.{Ready}
@@ -24,8 +24,6 @@ use Rattle.pattern.specs.Bound.{Named}
 use Rattle.patterns.specs.Patterns.{Shows}
 use Rattle.patterns.proofs.Laws.{shows_grown}
 use Rattle.substitute.specs.declared.Substituted.{Substituted}
-use Rattle.substitute.specs.declared.Sub.{Sub}
-use Rattle.substitute.specs.declared.Sub.TheVariants as sub
 use Rattle.substitute.specs.Sub.{head_tree, head_cost, head_low, list_tree, list_cost, list_low, Replaced, SubOk, sub_made}
 use Rattle.substitute.proofs.Bought.{bought_none, bought_then, over_then, over_more}
 use Rattle.substitute.proofs.Turns.{named_tree}
@@ -58,24 +56,24 @@ improper_list h r args l e = (rw (e, list_cost), rw (e, list_tree), rw (e, list_
 
 -- ---- answers
 
-pub sub_is : (f s s' : List ℕ) (c : Charges) (k k' : ℕ) (t t' : Tree) (l l' : Bool) (a : Sub) → SubOk f s s' c k t l a → k' ≡ k → t' ≡ t → l' ≡ l → SubOk f s s' c k' t' l' a
+pub sub_is : (f s s' : List ℕ) (c : Charges) (k k' : ℕ) (t t' : Tree) (l l' : Bool) (a : Result Substituted Refusal) → SubOk f s s' c k t l a → k' ≡ k → t' ≡ t → l' ≡ l → SubOk f s s' c k' t' l' a
 sub_is f s s' c k k' t t' l l' a h x y z = rw (x, y, z) h
 
-pub sub_stop : (f s s' : List ℕ) (c : Charges) (k : ℕ) (t : Tree) (l : Bool) (r : Refusal) → Over c k r → SubOk f s s' c k t l (sub.Refused r)
+pub sub_stop : (f s s' : List ℕ) (c : Charges) (k : ℕ) (t : Tree) (l : Bool) (r : Refusal) → Over c k r → SubOk f s s' c k t l (Err r)
 unfolding SubOk
 sub_stop f s s' c k t l r o = o
 
 -- nothing made: a node that was there
-pub sub_none : (f s : List ℕ) (c : Charges) (n : ℕ) (l : Bool) → Ready f s c n → SubOk f s s c 0 (tree_at f s n) l (sub.Done (record { ch = c; low = l; node = n }))
+pub sub_none : (f s : List ℕ) (c : Charges) (n : ℕ) (l : Bool) → Ready f s c n → SubOk f s s c 0 (tree_at f s n) l (Ok (record { ch = c; low = l; node = n }))
 unfolding SubOk
 sub_none f s c n l r = record { bought = bought_none (tree_at f s n) (grown_none f s c r.held) r refl; low = refl }
 
-module _ (f s s₁ : List ℕ) (c : Charges) (k : ℕ) (t : Tree) (l : Bool) (a : Sub) (h : SubOk f s s₁ c k t l a) where
-  pub sub_over : (r : Refusal) → a ≡ sub.Refused r → Over c k r
+module _ (f s s₁ : List ℕ) (c : Charges) (k : ℕ) (t : Tree) (l : Bool) (a : Result Substituted Refusal) (h : SubOk f s s₁ c k t l a) where
+  pub sub_over : (r : Refusal) → a ≡ Err r → Over c k r
   unfolding SubOk
   sub_over r e = rw e at h
 
-  pub sub_done : (x : Substituted) → a ≡ sub.Done x → Replaced f s s₁ c k t l x
+  pub sub_done : (x : Substituted) → a ≡ Ok x → Replaced f s s₁ c k t l x
   unfolding SubOk
   sub_done x e = rw e at h
 
@@ -96,10 +94,10 @@ module _ {f s s₁ : List ℕ} {c : Charges} {k : ℕ} {t : Tree} {l : Bool} {x 
   pub done_shows : (m : ℕ) (u : Tree) → Shows f s c m u → Shows f s₁ x.ch m u
   done_shows m u q = shows_grown done_grown q
 
-  pub sub_then : (s₂ : List ℕ) (k' : ℕ) (t' : Tree) (l' : Bool) (a : Sub) → SubOk f s₁ s₂ x.ch k' t' l' a → SubOk f s s₂ c (k + k') t' l' a
+  pub sub_then : (s₂ : List ℕ) (k' : ℕ) (t' : Tree) (l' : Bool) (a : Result Substituted Refusal) → SubOk f s₁ s₂ x.ch k' t' l' a → SubOk f s s₂ c (k + k') t' l' a
   unfolding SubOk
-  sub_then s₂ k' t' l' (sub.Done y) g = record { bought = bought_then h.bought g.bought; low = g.low }
-  sub_then s₂ k' t' l' (sub.Refused r) g = over_then h.bought g
+  sub_then s₂ k' t' l' (Ok y) g = record { bought = bought_then h.bought g.bought; low = g.low }
+  sub_then s₂ k' t' l' (Err r) g = over_then h.bought g
 
 -- what `a || b` comes to, by a
 pub low_first : (a b : Bool) → a ≡ true → true ≡ (a || b)
@@ -108,14 +106,14 @@ low_first a b e = rw e refl
 pub low_second : (a b : Bool) → a ≡ false → b ≡ (a || b)
 low_second a b e = rw e refl
 
-pub made_sub : (f s s' : List ℕ) (c : Charges) (k : ℕ) (t : Tree) (l : Bool) (m : Made) → MadeOk f s s' c k t m → SubOk f s s' c k t l (sub_made l m)
+pub made_sub : (f s s' : List ℕ) (c : Charges) (k : ℕ) (t : Tree) (l : Bool) (m : Result Made Refusal) → MadeOk f s s' c k t m → SubOk f s s' c k t l (sub_made l m)
 unfolding MadeOk SubOk
-made_sub f s s' c k t l (Node n d) h = record { bought = h; low = refl }
-made_sub f s s' c k t l (Refused r) h = h
+made_sub f s s' c k t l (Ok x) h = record { bought = h; low = refl }
+made_sub f s s' c k t l (Err r) h = h
 
 -- ---- an atom of the body
 
-pub atom_done : (f s s' : List ℕ) (c : Charges) (n args : ℕ) (l : Bool) (m : Made) (a : Sub)
+pub atom_done : (f s s' : List ℕ) (c : Charges) (n args : ℕ) (l : Bool) (m : Result Made Refusal) (a : Result Substituted Refusal)
     → MadeOk f s s' c (path_cost (sub_turns (bytes_at f s n)) (tree_at f s args)) (path_from_args (sub_turns (bytes_at f s n)) (tree_at f s args)) m → l ≡ is_low (bytes_at f s n) → a ≡ sub_made l m → Named f s c n
     → SubOk f s s' c (sub_cost (tree_at f s n) (tree_at f s args)) (sub_args (tree_at f s n) (tree_at f s args)) (reads_low (tree_at f s n)) a
 unfolding sub_cost sub_args reads_low
@@ -165,24 +163,24 @@ module _ (f s : List ℕ) (c : Charges) (body g args : ℕ) (q : Cell) (e : q �
   tail_ready = ready_right f s c body g n.right q n.is e r
 
   module _ (u : Bool) (eu : u ≡ is_byte_tree 1 (tree_at f s g)) where
-    pub quote_kept : u ≡ true → SubOk f s s c (sub_cost (tree_at f s body) (tree_at f s args)) (sub_args (tree_at f s body) (tree_at f s args)) (reads_low (tree_at f s body)) (sub.Done (record { ch = c; low = false; node = body }))
+    pub quote_kept : u ≡ true → SubOk f s s c (sub_cost (tree_at f s body) (tree_at f s args)) (sub_args (tree_at f s body) (tree_at f s args)) (reads_low (tree_at f s body)) (Ok (record { ch = c; low = false; node = body }))
     quote_kept z =
         let (k, t, l) = quote_stays (tree_at f s g) (tree_at f s n.right) (tree_at f s args) (sym eu ∙ z) in
         sub_is f s s c 0 _ (tree_at f s body) _ false _ _ (sub_none f s c body false r) (ap (λ w. sub_cost w (tree_at f s args)) tree ∙ k) (ap (λ w. sub_args w (tree_at f s args)) tree ∙ t ∙ sym tree) (ap reads_low tree ∙ l)
 
     -- no quote: the head, then the list
-    module _ (no : u ≡ false) (s₁ : List ℕ) (a : Sub) (h : SubOk f s s₁ c (head_cost (tree_at f s g) (tree_at f s args)) (head_tree (tree_at f s g) (tree_at f s args)) (head_low (tree_at f s g)) a) where
-      pub head_stops : (w : Refusal) → a ≡ sub.Refused w
-          → SubOk f s s₁ c (sub_cost (tree_at f s body) (tree_at f s args)) (sub_args (tree_at f s body) (tree_at f s args)) (reads_low (tree_at f s body)) (sub.Refused w)
+    module _ (no : u ≡ false) (s₁ : List ℕ) (a : Result Substituted Refusal) (h : SubOk f s s₁ c (head_cost (tree_at f s g) (tree_at f s args)) (head_tree (tree_at f s g) (tree_at f s args)) (head_low (tree_at f s g)) a) where
+      pub head_stops : (w : Refusal) → a ≡ Err w
+          → SubOk f s s₁ c (sub_cost (tree_at f s body) (tree_at f s args)) (sub_args (tree_at f s body) (tree_at f s args)) (reads_low (tree_at f s body)) (Err w)
       head_stops w z =
           let (k, t, l) = list_of_head (tree_at f s g) (tree_at f s n.right) (tree_at f s args) (sym eu ∙ no) in
           rw (tree, k) (sub_stop f s s₁ c _ _ _ w (over_more (list_cost (tree_at f s n.right) (tree_at f s args)) (sub_over f s s₁ c _ _ _ a h w z)))
 
-      module _ (v : Substituted) (z : a ≡ sub.Done v) where
+      module _ (v : Substituted) (z : a ≡ Ok v) where
         rep : Replaced f s s₁ c (head_cost (tree_at f s g) (tree_at f s args)) (head_tree (tree_at f s g) (tree_at f s args)) (head_low (tree_at f s g)) v
         rep = sub_done f s s₁ c _ _ _ a h v z
 
-        pub head_listed : (s₂ : List ℕ) (b : Sub)
+        pub head_listed : (s₂ : List ℕ) (b : Result Substituted Refusal)
             → SubOk f s₁ s₂ v.ch (list_cost (tree_at f s₁ n.right) (tree_at f s₁ args)) (list_tree (tree_at f s₁ v.node) (tree_at f s₁ n.right) (tree_at f s₁ args)) (list_low v.low (tree_at f s₁ n.right)) b
             → Ready f s c args
             → SubOk f s s₂ c (sub_cost (tree_at f s body) (tree_at f s args)) (sub_args (tree_at f s body) (tree_at f s args)) (reads_low (tree_at f s body)) b
@@ -196,13 +194,13 @@ module _ (f s : List ℕ) (c : Charges) (body g args : ℕ) (q : Cell) (e : q �
             rw (tree, k, t, l) (sub_then rep s₂ _ _ _ b p')
 
   -- an operand, and those after it
-  module _ (s₁ : List ℕ) (a : Sub) (h : SubOk f s s₁ c (sub_cost (tree_at f s g) (tree_at f s args)) (sub_args (tree_at f s g) (tree_at f s args)) (reads_low (tree_at f s g)) a) where
-    pub each_stops : (w : Refusal) → a ≡ sub.Refused w
-        → SubOk f s s₁ c (sub_each_cost (tree_at f s body) (tree_at f s args)) (sub_each (tree_at f s body) (tree_at f s args)) (reads_low_each (tree_at f s body)) (sub.Refused w)
+  module _ (s₁ : List ℕ) (a : Result Substituted Refusal) (h : SubOk f s s₁ c (sub_cost (tree_at f s g) (tree_at f s args)) (sub_args (tree_at f s g) (tree_at f s args)) (reads_low (tree_at f s g)) a) where
+    pub each_stops : (w : Refusal) → a ≡ Err w
+        → SubOk f s s₁ c (sub_each_cost (tree_at f s body) (tree_at f s args)) (sub_each (tree_at f s body) (tree_at f s args)) (reads_low_each (tree_at f s body)) (Err w)
     unfolding sub_each_cost
     each_stops w z = rw tree (sub_stop f s s₁ c _ _ _ w (over_more (pair_cost + sub_each_cost (tree_at f s n.right) (tree_at f s args)) (sub_over f s s₁ c _ _ _ a h w z)))
 
-    module _ (v : Substituted) (z : a ≡ sub.Done v) where
+    module _ (v : Substituted) (z : a ≡ Ok v) where
       one : Replaced f s s₁ c (sub_cost (tree_at f s g) (tree_at f s args)) (sub_args (tree_at f s g) (tree_at f s args)) (reads_low (tree_at f s g)) v
       one = sub_done f s s₁ c _ _ _ a h v z
 
@@ -215,26 +213,26 @@ module _ (f s : List ℕ) (c : Charges) (body g args : ℕ) (q : Cell) (e : q �
       pub each_shows : (m : ℕ) (u : Tree) → Shows f s c m u → Shows f s₁ v.ch m u
       each_shows m u q = done_shows one m u q
 
-      module _ (s₂ : List ℕ) (b : Sub) (p : SubOk f s₁ s₂ v.ch (sub_each_cost (tree_at f s₁ n.right) (tree_at f s₁ args)) (sub_each (tree_at f s₁ n.right) (tree_at f s₁ args)) (reads_low_each (tree_at f s₁ n.right)) b) (ra : Ready f s c args) where
+      module _ (s₂ : List ℕ) (b : Result Substituted Refusal) (p : SubOk f s₁ s₂ v.ch (sub_each_cost (tree_at f s₁ n.right) (tree_at f s₁ args)) (sub_each (tree_at f s₁ n.right) (tree_at f s₁ args)) (reads_low_each (tree_at f s₁ n.right)) b) (ra : Ready f s c args) where
         others : SubOk f s₁ s₂ v.ch (sub_each_cost (tree_at f s n.right) (tree_at f s args)) (sub_each (tree_at f s n.right) (tree_at f s args)) (reads_low_each (tree_at f s n.right)) b
         others = rw (done_tree one n.right tail_ready, done_tree one args ra) at p
 
-        pub each_stops_2 : (w : Refusal) → b ≡ sub.Refused w
-            → SubOk f s s₂ c (sub_each_cost (tree_at f s body) (tree_at f s args)) (sub_each (tree_at f s body) (tree_at f s args)) (reads_low_each (tree_at f s body)) (sub.Refused w)
+        pub each_stops_2 : (w : Refusal) → b ≡ Err w
+            → SubOk f s s₂ c (sub_each_cost (tree_at f s body) (tree_at f s args)) (sub_each (tree_at f s body) (tree_at f s args)) (reads_low_each (tree_at f s body)) (Err w)
         unfolding sub_each_cost
         each_stops_2 w j =
             let o : Over v.ch (sub_each_cost (tree_at f s n.right) (tree_at f s args) + pair_cost) w = over_more pair_cost (sub_over f s₁ s₂ v.ch _ _ _ b others w j) in
             let o' : Over v.ch (pair_cost + sub_each_cost (tree_at f s n.right) (tree_at f s args)) w = rw (add_comm (sub_each_cost (tree_at f s n.right) (tree_at f s args)) pair_cost) at o in
             rw tree (sub_stop f s s₂ c _ _ _ w (over_then one.bought o'))
 
-        module _ (y : Substituted) (j : b ≡ sub.Done y) where
+        module _ (y : Substituted) (j : b ≡ Ok y) where
           two : Replaced f s₁ s₂ v.ch (sub_each_cost (tree_at f s n.right) (tree_at f s args)) (sub_each (tree_at f s n.right) (tree_at f s args)) (reads_low_each (tree_at f s n.right)) y
           two = sub_done f s₁ s₂ v.ch _ _ _ b others y j
 
           pub each_first : Ready f s₂ y.ch v.node
           each_first = done_old two v.node (done_new one)
 
-          pub each_made : (s₃ : List ℕ) (m : Made) (l : Bool) (z : Sub) → MadeOk f s₂ s₃ y.ch pair_cost (pair (tree_at f s₂ v.node) (tree_at f s₂ y.node)) m → l ≡ (v.low || y.low) → z ≡ sub_made l m
+          pub each_made : (s₃ : List ℕ) (m : Result Made Refusal) (l : Bool) (z : Result Substituted Refusal) → MadeOk f s₂ s₃ y.ch pair_cost (pair (tree_at f s₂ v.node) (tree_at f s₂ y.node)) m → l ≡ (v.low || y.low) → z ≡ sub_made l m
               → SubOk f s s₃ c (sub_each_cost (tree_at f s body) (tree_at f s args)) (sub_each (tree_at f s body) (tree_at f s args)) (reads_low_each (tree_at f s body)) z
           unfolding sub_each_cost sub_each reads_low_each
           each_made s₃ m l z h₃ el ez =
@@ -248,7 +246,7 @@ module _ (f s : List ℕ) (c : Charges) (body g args : ℕ) (q : Cell) (e : q �
 
 -- an end of a list stays
 pub each_end : (f s : List ℕ) (c : Charges) (n args : ℕ) (q : Cell) → q ≡ cell_at s n → q ≡ Atom → Ready f s c n
-    → SubOk f s s c (sub_each_cost (tree_at f s n) (tree_at f s args)) (sub_each (tree_at f s n) (tree_at f s args)) (reads_low_each (tree_at f s n)) (sub.Done (record { ch = c; low = false; node = n }))
+    → SubOk f s s c (sub_each_cost (tree_at f s n) (tree_at f s args)) (sub_each (tree_at f s n) (tree_at f s args)) (reads_low_each (tree_at f s n)) (Ok (record { ch = c; low = false; node = n }))
 unfolding sub_each_cost sub_each reads_low_each
 each_end f s c n args q e i r =
     let z : tree_at f s n ≡ atom (bytes_at f s n) = look_atom f s n q e i in
@@ -258,13 +256,13 @@ each_end f s c n args q e i r =
 
 module _ (f s : List ℕ) (c : Charges) (g args : ℕ) (q : Cell) (e : q ≡ cell_at s g) where
   pub head_atom : q ≡ Atom → Ready f s c g
-      → SubOk f s s c (head_cost (tree_at f s g) (tree_at f s args)) (head_tree (tree_at f s g) (tree_at f s args)) (head_low (tree_at f s g)) (sub.Done (record { ch = c; low = false; node = g }))
+      → SubOk f s s c (head_cost (tree_at f s g) (tree_at f s args)) (head_tree (tree_at f s g) (tree_at f s args)) (head_low (tree_at f s g)) (Ok (record { ch = c; low = false; node = g }))
   unfolding head_cost head_tree head_low
   head_atom i r =
       let z : tree_at f s g ≡ atom (bytes_at f s g) = look_atom f s g q e i in
       rw z (rw z at (sub_none f s c g false r))
 
-  pub head_pair : (s₁ : List ℕ) (a : Sub) → SubOk f s s₁ c (sub_cost (tree_at f s g) (tree_at f s args)) (sub_args (tree_at f s g) (tree_at f s args)) (reads_low (tree_at f s g)) a → SomePair q
+  pub head_pair : (s₁ : List ℕ) (a : Result Substituted Refusal) → SubOk f s s₁ c (sub_cost (tree_at f s g) (tree_at f s args)) (sub_args (tree_at f s g) (tree_at f s args)) (reads_low (tree_at f s g)) a → SomePair q
       → SubOk f s s₁ c (head_cost (tree_at f s g) (tree_at f s args)) (head_tree (tree_at f s g) (tree_at f s args)) (head_low (tree_at f s g)) a
   unfolding head_cost head_tree head_low
   head_pair s₁ a h i =
@@ -275,24 +273,24 @@ module _ (f s : List ℕ) (c : Charges) (g args : ℕ) (q : Cell) (e : q ≡ cel
 
 module _ (f s : List ℕ) (c : Charges) (first rest args : ℕ) (l u : Bool) (eu : u ≡ is_proper (tree_at f s rest)) where
   pub list_improper : u ≡ false → Ready f s c args
-      → SubOk f s s c (list_cost (tree_at f s rest) (tree_at f s args)) (list_tree (tree_at f s first) (tree_at f s rest) (tree_at f s args)) (list_low l (tree_at f s rest)) (sub.Done (record { ch = c; low = l; node = args }))
+      → SubOk f s s c (list_cost (tree_at f s rest) (tree_at f s args)) (list_tree (tree_at f s first) (tree_at f s rest) (tree_at f s args)) (list_low l (tree_at f s rest)) (Ok (record { ch = c; low = l; node = args }))
   list_improper z ra =
       let (k, t, w) = improper_list (tree_at f s first) (tree_at f s rest) (tree_at f s args) l (sym eu ∙ z) in
       sub_is f s s c 0 _ (tree_at f s args) _ l _ _ (sub_none f s c args l ra) k t w
 
-  module _ (yes : u ≡ true) (s₁ : List ℕ) (a : Sub) (h : SubOk f s s₁ c (sub_each_cost (tree_at f s rest) (tree_at f s args)) (sub_each (tree_at f s rest) (tree_at f s args)) (reads_low_each (tree_at f s rest)) a) where
-    pub list_stops : (w : Refusal) → a ≡ sub.Refused w
-        → SubOk f s s₁ c (list_cost (tree_at f s rest) (tree_at f s args)) (list_tree (tree_at f s first) (tree_at f s rest) (tree_at f s args)) (list_low l (tree_at f s rest)) (sub.Refused w)
+  module _ (yes : u ≡ true) (s₁ : List ℕ) (a : Result Substituted Refusal) (h : SubOk f s s₁ c (sub_each_cost (tree_at f s rest) (tree_at f s args)) (sub_each (tree_at f s rest) (tree_at f s args)) (reads_low_each (tree_at f s rest)) a) where
+    pub list_stops : (w : Refusal) → a ≡ Err w
+        → SubOk f s s₁ c (list_cost (tree_at f s rest) (tree_at f s args)) (list_tree (tree_at f s first) (tree_at f s rest) (tree_at f s args)) (list_low l (tree_at f s rest)) (Err w)
     list_stops w z =
         let (k, t, i) = proper_list (tree_at f s first) (tree_at f s rest) (tree_at f s args) l (sym eu ∙ yes) in
         let o : Over c (sub_each_cost (tree_at f s rest) (tree_at f s args) + pair_cost) w = over_more pair_cost (sub_over f s s₁ c _ _ _ a h w z) in
         rw (k, add_comm pair_cost (sub_each_cost (tree_at f s rest) (tree_at f s args))) (sub_stop f s s₁ c _ _ _ w o)
 
-    module _ (v : Substituted) (z : a ≡ sub.Done v) where
+    module _ (v : Substituted) (z : a ≡ Ok v) where
       tail : Replaced f s s₁ c (sub_each_cost (tree_at f s rest) (tree_at f s args)) (sub_each (tree_at f s rest) (tree_at f s args)) (reads_low_each (tree_at f s rest)) v
       tail = sub_done f s s₁ c _ _ _ a h v z
 
-      pub list_made : (s₂ : List ℕ) (m : Made) (d : Bool) (b : Sub) → MadeOk f s₁ s₂ v.ch pair_cost (pair (tree_at f s₁ first) (tree_at f s₁ v.node)) m → d ≡ (l || v.low) → b ≡ sub_made d m → Ready f s c first
+      pub list_made : (s₂ : List ℕ) (m : Result Made Refusal) (d : Bool) (b : Result Substituted Refusal) → MadeOk f s₁ s₂ v.ch pair_cost (pair (tree_at f s₁ first) (tree_at f s₁ v.node)) m → d ≡ (l || v.low) → b ≡ sub_made d m → Ready f s c first
           → SubOk f s s₂ c (list_cost (tree_at f s rest) (tree_at f s args)) (list_tree (tree_at f s first) (tree_at f s rest) (tree_at f s args)) (list_low l (tree_at f s rest)) b
       list_made s₂ m d b h₂ ed eb r =
           let (k, t, i) = proper_list (tree_at f s first) (tree_at f s rest) (tree_at f s args) l (sym eu ∙ yes) in

@@ -1,4 +1,5 @@
 -- One purchase after another. Assumes nothing.
+use Rattle.std.specs.Prelude.{Result, Ok, Err, Option as Got, Some, None}
 use Prim.Native.Nat.{ℕ, ◌+◌, ◌<◌}
 use native.Mathlib.Omega.{arith}
 use mathlib.Core.Path.{◌≡◌, refl, ◌∙◌, ap₂}
@@ -9,13 +10,11 @@ use Rattle.meaning.specs.Tree.{Tree, pair, nil, byte}
 use Rattle.meaning.specs.Limits.{unit_limit, pair_cost, atom_cost}
 use Rattle.store.specs.declared.Charges.{Charges}
 use Rattle.store.specs.declared.Made.{Made}
-use Rattle.store.specs.declared.Made.TheVariants.{Node, Refused}
 use Rattle.store.specs.Nodes.{tree_at}
 use Rattle.store.specs.Store.{Ready}
 use Rattle.store.specs.Makers.{Grown, Bought, Over, MadeOk}
 use Rattle.store.proofs.Ready.{grown_both, grown_ready, grown_tree, nil_ready}
 use Rattle.store.proofs.Charging.{made_node, made_over}
-use Rattle.substitute.specs.declared.Sub.TheVariants as sub
 use Rattle.substitute.specs.Sub.{sub_made}
 
 -- nothing bought: a node that is there already
@@ -46,46 +45,41 @@ module _ {f s s₁ : List ℕ} {c c₁ : Charges} {k q : ℕ} {t : Tree} (h : Bo
       let y : unit_limit < c₁.units + k' = o.over in
       record { refusal = o.refusal; over = omega arith }
 
-  pub made_then : (s₂ : List ℕ) (k' : ℕ) (t' : Tree) (a : Made) → MadeOk f s₁ s₂ c₁ k' t' a → MadeOk f s s₂ c (k + k') t' a
+  pub made_then : (s₂ : List ℕ) (k' : ℕ) (t' : Tree) (a : Result Made Refusal) → MadeOk f s₁ s₂ c₁ k' t' a → MadeOk f s s₂ c (k + k') t' a
   unfolding MadeOk
-  made_then s₂ k' t' (Node q d) g = bought_then g
-  made_then s₂ k' t' (Refused r) g = over_then g
+  made_then s₂ k' t' (Ok x) g = bought_then g
+  made_then s₂ k' t' (Err r) g = over_then g
 
 -- what was made is there
-pub made_ready : (f s s' : List ℕ) (c : Charges) (k : ℕ) (t : Tree) (a : Made) → MadeOk f s s' c k t a → (q : ℕ) (d : Charges) → a ≡ Node q d → Ready f s' d q
-made_ready f s s' c k t a h q d e = (made_node f s s' c k t a h q d e).stands.ready
-
--- some node was made, and these are the charges after it
-pub record SomeNode (a : Made) (d : Charges) : Type 0 where
-  pub node : ℕ
-  pub is : a ≡ Node node d
-
-abbrev pub some_node : (a : Made) (q : ℕ) (d : Charges) → a ≡ Node q d → SomeNode a d
-some_node a q d e = record { node = q; is = e }
+pub made_ready : (f s s' : List ℕ) (c : Charges) (k : ℕ) (t : Tree) (a : Result Made Refusal) → MadeOk f s s' c k t a → (x : Made) → a ≡ Ok x → Ready f s' x.ch x.node
+made_ready f s s' c k t a h x e = (made_node f s s' c k t a h x e).stands.ready
 
 -- what was made before it is there still
-pub made_kept : (f s s₁ s₂ : List ℕ) (c c₁ c₂ : Charges) (k k' q : ℕ) (t t' : Tree) (a b : Made) → MadeOk f s₁ s₂ c₁ k' t' b → SomeNode b c₂ → MadeOk f s s₁ c k t a → a ≡ Node q c₁ → Ready f s₂ c₂ q
-made_kept f s s₁ s₂ c c₁ c₂ k k' q t t' a b h n g e = bought_ready (made_node f s₁ s₂ c₁ k' t' b h n.node c₂ n.is) (made_ready f s s₁ c k t a g q c₁ e)
+pub made_kept : (f s s₁ s₂ : List ℕ) (c : Charges) (x y : Made) (k k' : ℕ) (t t' : Tree) (a b : Result Made Refusal) → MadeOk f s₁ s₂ x.ch k' t' b → b ≡ Ok y → MadeOk f s s₁ c k t a → a ≡ Ok x → Ready f s₂ y.ch x.node
+made_kept f s s₁ s₂ c x y k k' t t' a b h i g e = bought_ready (made_node f s₁ s₂ x.ch k' t' b h y i) (made_ready f s s₁ c k t a g x e)
 
 -- a refusal at once refuses more
 pub over_more : {c : Charges} {k : ℕ} {r : Refusal} (k' : ℕ) → Over c k r → Over c (k + k') r
 over_more {c} {k} k' o = let x : unit_limit < c.units + k = o.over in record { refusal = o.refusal; over = omega arith }
 
-pub made_refused : (f s s' : List ℕ) (c : Charges) (k : ℕ) (t : Tree) (r : Refusal) → Over c k r → MadeOk f s s' c k t (Refused r)
+pub made_refused : (f s s' : List ℕ) (c : Charges) (k : ℕ) (t : Tree) (r : Refusal) → Over c k r → MadeOk f s s' c k t (Err r)
 unfolding MadeOk
 made_refused f s s' c k t r o = o
 
 -- ---- (o args): an atom, and two pairs
 
-module _ (f s s₁ : List ℕ) (c : Charges) (o : ℕ) (a₁ : Made) (h₁ : MadeOk f s s₁ c (atom_cost (o ∷ [])) (byte o) a₁) where
-  pub call_stops : (s' : List ℕ) (x : Tree) (r : Refusal) → a₁ ≡ Refused r → MadeOk f s s' c (5 + (pair_cost + pair_cost)) x (Refused r)
+module _ (f s s₁ : List ℕ) (c : Charges) (o : ℕ) (a₁ : Result Made Refusal) (h₁ : MadeOk f s s₁ c (atom_cost (o ∷ [])) (byte o) a₁) where
+  pub call_stops : (s' : List ℕ) (x : Tree) (r : Refusal) → a₁ ≡ Err r → MadeOk f s s' c (5 + (pair_cost + pair_cost)) x (Err r)
   unfolding atom_cost
   call_stops s' x r e = made_refused f s s' c _ x r (over_more (pair_cost + pair_cost) (made_over f s s₁ c 5 (byte o) a₁ h₁ r e))
 
-  module _ (c₁ : Charges) (n₁ : SomeNode a₁ c₁) where
+  module _ (n₁ : Made) (e₁ : a₁ ≡ Ok n₁) where
+    abbrev c₁ : Charges
+    c₁ = n₁.ch
+
     b₁ : Bought f s s₁ c c₁ 5 n₁.node (byte o)
     unfolding atom_cost
-    b₁ = made_node f s s₁ c 5 (byte o) a₁ h₁ n₁.node c₁ n₁.is
+    b₁ = made_node f s s₁ c 5 (byte o) a₁ h₁ n₁ e₁
 
     pub call_args : (m : ℕ) → Ready f s c m → Ready f s₁ c₁ m
     call_args m r = bought_ready b₁ r
@@ -93,23 +87,23 @@ module _ (f s s₁ : List ℕ) (c : Charges) (o : ℕ) (a₁ : Made) (h₁ : Mad
     pub call_nil : Ready f s₁ c₁ 0
     call_nil = nil_ready f s₁ c₁ b₁.stands.ready.held
 
-    module _ (s₂ : List ℕ) (a₂ : Made) (args : ℕ) (h₂ : MadeOk f s₁ s₂ c₁ pair_cost (pair (tree_at f s₁ args) (tree_at f s₁ 0)) a₂) where
-      pub call_stops_2 : (s' : List ℕ) (x : Tree) (r : Refusal) → a₂ ≡ Refused r → MadeOk f s s' c (5 + (pair_cost + pair_cost)) x (Refused r)
+    module _ (s₂ : List ℕ) (a₂ : Result Made Refusal) (args : ℕ) (h₂ : MadeOk f s₁ s₂ c₁ pair_cost (pair (tree_at f s₁ args) (tree_at f s₁ 0)) a₂) where
+      pub call_stops_2 : (s' : List ℕ) (x : Tree) (r : Refusal) → a₂ ≡ Err r → MadeOk f s s' c (5 + (pair_cost + pair_cost)) x (Err r)
       call_stops_2 s' x r e = made_refused f s s' c _ x r (over_then b₁ (over_more pair_cost (made_over f s₁ s₂ c₁ pair_cost _ a₂ h₂ r e)))
 
-      pub call_made : (c₂ : Charges) (n₂ : SomeNode a₂ c₂) (s₃ : List ℕ) (a₃ : Made) → MadeOk f s₂ s₃ c₂ pair_cost (pair (tree_at f s₂ n₁.node) (tree_at f s₂ n₂.node)) a₃ → Ready f s c args
+      pub call_made : (n₂ : Made) → a₂ ≡ Ok n₂ → (s₃ : List ℕ) (a₃ : Result Made Refusal) → MadeOk f s₂ s₃ n₂.ch pair_cost (pair (tree_at f s₂ n₁.node) (tree_at f s₂ n₂.node)) a₃ → Ready f s c args
           → MadeOk f s s₃ c (5 + (pair_cost + pair_cost)) (pair (byte o) (pair (tree_at f s args) nil)) a₃
-      call_made c₂ n₂ s₃ a₃ h₃ r =
-          let b₂ : Bought f s₁ s₂ c₁ c₂ pair_cost n₂.node (pair (tree_at f s₁ args) (tree_at f s₁ 0)) = made_node f s₁ s₂ c₁ pair_cost (pair (tree_at f s₁ args) (tree_at f s₁ 0)) a₂ h₂ n₂.node c₂ n₂.is in
+      call_made n₂ e₂ s₃ a₃ h₃ r =
+          let b₂ : Bought f s₁ s₂ c₁ n₂.ch pair_cost n₂.node (pair (tree_at f s₁ args) (tree_at f s₁ 0)) = made_node f s₁ s₂ c₁ pair_cost (pair (tree_at f s₁ args) (tree_at f s₁ 0)) a₂ h₂ n₂ e₂ in
           let e : tree_at f s₂ n₁.node ≡ byte o = bought_tree b₂ b₁.stands.ready ∙ b₁.stands.tree in
           let i : tree_at f s₂ n₂.node ≡ pair (tree_at f s args) nil = b₂.stands.tree ∙ ap₂ pair (bought_tree b₁ r) b₁.stands.ready.held.nil_at in
-          let h : MadeOk f s₂ s₃ c₂ pair_cost (pair (byte o) (pair (tree_at f s args) nil)) a₃ = rw (e, i) at h₃ in
+          let h : MadeOk f s₂ s₃ n₂.ch pair_cost (pair (byte o) (pair (tree_at f s args) nil)) a₃ = rw (e, i) at h₃ in
           made_then b₁ s₃ (pair_cost + pair_cost) _ a₃ (made_then b₂ s₃ pair_cost _ a₃ h)
 
 -- ---- a maker's answer as one of substitution's
 
-pub sub_node : (low : Bool) (m : Made) (n : ℕ) (c : Charges) → m ≡ Node n c → sub.Done (record { ch = c; low = low; node = n }) ≡ sub_made low m
-sub_node low m n c e = rw e
+pub sub_node : (low : Bool) (m : Result Made Refusal) (x : Made) → m ≡ Ok x → Ok (record { ch = x.ch; low = low; node = x.node }) ≡ sub_made low m
+sub_node low m x e = rw e
 
-pub sub_refused : (low : Bool) (m : Made) (r : Refusal) → m ≡ Refused r → sub.Refused r ≡ sub_made low m
+pub sub_refused : (low : Bool) (m : Result Made Refusal) (r : Refusal) → m ≡ Err r → Err r ≡ sub_made low m
 sub_refused low m r e = rw e

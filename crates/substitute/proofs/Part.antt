@@ -1,4 +1,6 @@
 -- `cons_f` and `cons_r`: what they give and cost, where the arguments are (c A B) and where they are not. Assumes nothing.
+use Rattle.refusals.specs.declared.Refusal.{Refusal}
+use Rattle.std.specs.Prelude.{Result, Ok, Err, Option as Got, Some, None}
 use Prim.Native.Nat.{ℕ, ◌+◌}
 use mathlib.Core.Path.{◌≡◌, refl, sym, ◌∙◌, ap}
 use mathlib.Core.List.{List, [], ◌∷◌}
@@ -13,13 +15,10 @@ use Rattle.meaning.proofs.MatchLaws.{bind}
 use Rattle.meaning.proofs.Shapes.{cons_shape}
 use Rattle.store.specs.declared.Charges.{Charges}
 use Rattle.store.specs.declared.Made.{Made}
-use Rattle.store.specs.declared.Made.TheVariants.{Node}
 use Rattle.store.specs.Nodes.{tree_at}
 use Rattle.store.specs.Store.{Ready}
 use Rattle.store.specs.Makers.{MadeOk}
 use Rattle.store.proofs.Ready.{grown_ready, grown_tree}
-use Rattle.pattern.specs.declared.Got.{Got}
-use Rattle.pattern.specs.declared.Got.TheVariants.{At, Nothing}
 use Rattle.pattern.specs.Bound.{got_at, GotIn, GotOk}
 use Rattle.patterns.specs.Patterns.{Shows}
 use Rattle.substitute.specs.Sub.{got_part, cons_part}
@@ -64,7 +63,7 @@ part_none true t h = let k = got_neither t h in (rw (k, part_cost), rw (h, cons_
 
 -- ---- what the matcher found, as the definitions have it
 
-module _ (f s s' : List ℕ) (c : Charges) (g : Got) (n : ℕ) (t : Tree) (right : Bool) where
+module _ (f s s' : List ℕ) (c : Charges) (g : Got ℕ) (n : ℕ) (t : Tree) (right : Bool) where
   pub part_first : GotOk f s s' c g (got first_name (match_sexp (tree_at f s n) t [])) → right ≡ false → Shows f s c n cons_pattern → GotOk f s s' c g (got_part right t)
   unfolding got_part
   part_first h i e = rw i (rw e.tree at h)
@@ -73,9 +72,9 @@ module _ (f s s' : List ℕ) (c : Charges) (g : Got) (n : ℕ) (t : Tree) (right
   unfolding got_part
   part_rest h i e = rw i (rw e.tree at h)
 
-module _ (f s s₁ : List ℕ) (c : Charges) (g : Got) (args : ℕ) (right : Bool) (h : GotOk f s s₁ c g (got_part right (tree_at f s args))) where
+module _ (f s s₁ : List ℕ) (c : Charges) (g : Got ℕ) (args : ℕ) (right : Bool) (h : GotOk f s s₁ c g (got_part right (tree_at f s args))) where
   -- the part is a node that was there
-  pub cons_found : (n : ℕ) → g ≡ At n → MadeOk f s s₁ c (part_cost (tree_at f s args)) (cons_part right (tree_at f s args)) (Node n c)
+  pub cons_found : (n : ℕ) → g ≡ Some n → MadeOk f s s₁ c (part_cost (tree_at f s args)) (cons_part right (tree_at f s args)) (Ok (record { node = n; ch = c }))
   unfolding MadeOk got_at GotIn
   cons_found n e =
       let a : some (tree_at f s₁ n) ≡ got_part right (tree_at f s args) = rw e at h.answer in
@@ -87,7 +86,7 @@ module _ (f s s₁ : List ℕ) (c : Charges) (g : Got) (args : ℕ) (right : Boo
   pub cons_args : Ready f s c args → Ready f s₁ c args
   cons_args r = grown_ready h.grown r
 
-  pub cons_called : (s₂ : List ℕ) (o : ℕ) (a : Made) → MadeOk f s₁ s₂ c (5 + (pair_cost + pair_cost)) (pair (byte o) (pair (tree_at f s₁ args) nil)) a → o ≡ part_byte right → g ≡ Nothing → Ready f s c args
+  pub cons_called : (s₂ : List ℕ) (o : ℕ) (a : Result Made Refusal) → MadeOk f s₁ s₂ c (5 + (pair_cost + pair_cost)) (pair (byte o) (pair (tree_at f s₁ args) nil)) a → o ≡ part_byte right → g ≡ None → Ready f s c args
       → MadeOk f s s₂ c (part_cost (tree_at f s args)) (cons_part right (tree_at f s args)) a
   unfolding got_at
   cons_called s₂ o a k i e r =

@@ -1,4 +1,5 @@
 -- The turns of an atom's path, one after the other. Assumes nothing.
+use Rattle.std.specs.Prelude.{Result, Ok, Err, Option as Got, Some, None}
 use Prim.Native.Nat.{ℕ, ◌+◌, ◌^◌, ◌≤◌, ◌<◌}
 use native.Mathlib.Omega.{arith}
 use mathlib.Core.Path.{◌≡◌, refl, sym, ◌∙◌, ap}
@@ -14,7 +15,6 @@ use Rattle.store.specs.declared.Cell.{Cell}
 use Rattle.store.specs.declared.Cell.TheVariants.{Pair, Atom}
 use Rattle.store.specs.declared.Charges.{Charges}
 use Rattle.store.specs.declared.Made.{Made}
-use Rattle.store.specs.declared.Made.TheVariants.{Node, Refused}
 use Rattle.store.specs.Cells.{Room, cell_at, bytes_at}
 use Rattle.store.specs.Nodes.{tree_at}
 use Rattle.store.specs.Store.{Ready}
@@ -105,13 +105,13 @@ module _ (f s₀ s : List ℕ) (c₀ c : Charges) (n args count a i : ℕ) (w : 
         let k : i < length (sub_turns (bytes_at f s₀ n)) = omega arith in
         next_turn (sub_turns (bytes_at f s₀ n)) i right k (rw (bytes_grown w.grown h) at e)
 
-    module _ (s₁ : List ℕ) (m : Made) (b : MadeOk f s s₁ c (part_cost (tree_at f s a)) (cons_part right (tree_at f s a)) m) where
-      pub walk_again : (q : ℕ) (d : Charges) → m ≡ Node q d → Walking f s₀ s₁ c₀ d n args count q (i + 1)
-      walk_again q d z =
-          let y : Bought f s s₁ c d (part_cost (tree_at f s a)) q (cons_part right (tree_at f s a)) = made_node f s s₁ c _ _ m b q d z in
-          let u : d.units ≡ c.units + part_cost (tree_at f s a) = y.units in
-          let t : tree_at f s₁ q ≡ cons_part right (tree_at f s a) = y.stands.tree in
-          let k : path_cost (drop i (sub_turns (bytes_at f s₀ n))) (tree_at f s a) ≡ part_cost (tree_at f s a) + path_cost (drop (i + 1) (sub_turns (bytes_at f s₀ n))) (tree_at f s₁ q) =
+    module _ (s₁ : List ℕ) (m : Result Made Refusal) (b : MadeOk f s s₁ c (part_cost (tree_at f s a)) (cons_part right (tree_at f s a)) m) where
+      pub walk_again : (x : Made) → m ≡ Ok x → Walking f s₀ s₁ c₀ x.ch n args count x.node (i + 1)
+      walk_again x z =
+          let y : Bought f s s₁ c x.ch (part_cost (tree_at f s a)) x.node (cons_part right (tree_at f s a)) = made_node f s s₁ c _ _ m b x z in
+          let u : x.ch.units ≡ c.units + part_cost (tree_at f s a) = y.units in
+          let t : tree_at f s₁ x.node ≡ cons_part right (tree_at f s a) = y.stands.tree in
+          let k : path_cost (drop i (sub_turns (bytes_at f s₀ n))) (tree_at f s a) ≡ part_cost (tree_at f s a) + path_cost (drop (i + 1) (sub_turns (bytes_at f s₀ n))) (tree_at f s₁ x.node) =
           rw (next, t) (cost_step right (drop (i + 1) (sub_turns (bytes_at f s₀ n))) (tree_at f s a)) in
           let v : c.units + path_cost (drop i (sub_turns (bytes_at f s₀ n))) (tree_at f s a) ≡ c₀.units + path_cost (sub_turns (bytes_at f s₀ n)) (tree_at f s₀ args) = w.cost in
           record {
@@ -123,7 +123,7 @@ module _ (f s₀ s : List ℕ) (c₀ c : Charges) (n args count a i : ℕ) (w : 
             cost = omega arith;
           }
 
-      pub walk_stops : (s' : List ℕ) (r : Refusal) → m ≡ Refused r → MadeOk f s₀ s' c₀ (path_cost (sub_turns (bytes_at f s₀ n)) (tree_at f s₀ args)) (path_from_args (sub_turns (bytes_at f s₀ n)) (tree_at f s₀ args)) (Refused r)
+      pub walk_stops : (s' : List ℕ) (r : Refusal) → m ≡ Err r → MadeOk f s₀ s' c₀ (path_cost (sub_turns (bytes_at f s₀ n)) (tree_at f s₀ args)) (path_from_args (sub_turns (bytes_at f s₀ n)) (tree_at f s₀ args)) (Err r)
       unfolding MadeOk
       walk_stops s' r z =
           let o : Over c (part_cost (tree_at f s a)) r = made_over f s s₁ c _ _ m b r z in
@@ -133,7 +133,7 @@ module _ (f s₀ s : List ℕ) (c₀ c : Charges) (n args count a i : ℕ) (w : 
           let v : c.units + path_cost (drop i (sub_turns (bytes_at f s₀ n))) (tree_at f s a) ≡ c₀.units + path_cost (sub_turns (bytes_at f s₀ n)) (tree_at f s₀ args) = w.cost in
           record { refusal = o.refusal; over = omega arith }
 
-  pub walk_ends : count ≤ i → MadeOk f s₀ s c₀ (path_cost (sub_turns (bytes_at f s₀ n)) (tree_at f s₀ args)) (path_from_args (sub_turns (bytes_at f s₀ n)) (tree_at f s₀ args)) (Node a c)
+  pub walk_ends : count ≤ i → MadeOk f s₀ s c₀ (path_cost (sub_turns (bytes_at f s₀ n)) (tree_at f s₀ args)) (path_from_args (sub_turns (bytes_at f s₀ n)) (tree_at f s₀ args)) (Ok (record { node = a; ch = c }))
   unfolding MadeOk path_from_args path_cost
   walk_ends l =
       let o : length (sub_turns (bytes_at f s₀ n)) ≤ i = let e : count ≡ length (sub_turns (bytes_at f s₀ n)) = w.counted in omega arith in

@@ -1,4 +1,6 @@
 -- What substitution on nodes answers: meaning's tree, its cost and its low atoms.
+use Rattle.refusals.specs.declared.Refusal.{Refusal}
+use Rattle.std.specs.Prelude.{Result, Ok, Err, Option as Got, Some, None}
 use Rattle.std.specs.Prelude.{ℕ, ◌+◌, ◌≡◌, List, [], Bool, true, false, ◌&&◌, ◌||◌}
 use Rattle.std.proofs.Math.Option.{Option}
 use Rattle.meaning.specs.Tree.{Tree, atom, pair}
@@ -7,11 +9,8 @@ use Rattle.meaning.specs.Match.{match_sexp, got}
 use Rattle.meaning.specs.Substitute.{first_name, rest_name, cons_pattern, cons_f, cons_r, is_proper, sub_args, sub_each, sub_cost, sub_each_cost, reads_low, reads_low_each}
 use Rattle.store.specs.declared.Charges.{Charges}
 use Rattle.store.specs.declared.Made.{Made}
-use Rattle.store.specs.declared.Made.TheVariants.{Node, Refused}
 use Rattle.store.specs.Makers.{Bought, Over}
 use Rattle.substitute.specs.declared.Substituted.{Substituted}
-use Rattle.substitute.specs.declared.Sub.{Sub}
-use Rattle.substitute.specs.declared.Sub.TheVariants as sub
 
 -- ---- one turn: false is left, true is right
 
@@ -66,11 +65,11 @@ pub record Replaced (f s s' : List ℕ) (c : Charges) (cost : ℕ) (t : Tree) (l
   pub low : x.low ≡ l
 
 -- or the cost goes over the units
-unfoldable pub SubOk : List ℕ → List ℕ → List ℕ → Charges → ℕ → Tree → Bool → Sub → Type 0
-SubOk f s s' c cost t low (sub.Done x) = Replaced f s s' c cost t low x
-SubOk f s s' c cost t low (sub.Refused r) = Over c cost r
+unfoldable pub SubOk : List ℕ → List ℕ → List ℕ → Charges → ℕ → Tree → Bool → Result Substituted Refusal → Type 0
+SubOk f s s' c cost t low (Ok x) = Replaced f s s' c cost t low x
+SubOk f s s' c cost t low (Err r) = Over c cost r
 
 -- a maker's answer as one of substitution's
-abbrev pub sub_made : Bool → Made → Sub
-sub_made low (Node n c) = sub.Done (record { ch = c; low = low; node = n })
-sub_made low (Refused r) = sub.Refused r
+abbrev pub sub_made : Bool → Result Made Refusal → Result Substituted Refusal
+sub_made low (Ok m) = Ok (record { ch = m.ch; low = low; node = m.node })
+sub_made low (Err r) = Err r

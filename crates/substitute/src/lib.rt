@@ -14,7 +14,6 @@ ghost use Rattle.patterns.specs.Patterns.{Shows, Patterned};
 ghost use Rattle.meaning.proofs.Parts.{part_byte};
 ghost use Rattle.substitute.specs.Sub.{got_part, cons_part, head_tree, head_cost, head_low, list_tree, list_cost, list_low, SubOk, sub_made};
 
-use pattern::Got;
 use patterns::Patterns;
 use refusals::Refusal;
 use store::{Cell, Charges, Made};
@@ -27,26 +26,16 @@ pub struct Substituted {
     pub node: usize,
 }
 
-#[derive(Clone, Copy)]
-pub enum Sub {
-    Done(Substituted),
-    Refused(Refusal),
-}
-
 // ---- `cons_f` and `cons_r`: cons is the node of `cons_pattern`
 
 // (o args)
-fn call_node(form: &[u8], room: &mut [u8], ch: Charges, o: u8, args: usize) -> Made
+fn call_node(form: &[u8], room: &mut [u8], ch: Charges, o: u8, args: usize) -> Result<Made, Refusal>
     requires { Ready form.now room.old ch args }
     ensures { MadeOk form.now room.old room.new ch (5 + (pair_cost + pair_cost)) (pair (byte o) (pair (tree_in form.now room.old args) nil)) result }
 {
-    match store::atom_node(form, room, ch, &[o]) {
-        Made::Refused(e) => Made::Refused(e),
-        Made::Node(f, c) => match store::pair_node(form, room, c, args, 0) {
-            Made::Refused(e) => Made::Refused(e),
-            Made::Node(t, d) => store::pair_node(form, room, d, f, t),
-        },
-    }
+    let f = store::atom_node(form, room, ch, &[o])?;
+    let t = store::pair_node(form, room, f.ch, args, 0)?;
+    store::pair_node(form, room, t.ch, f.node, t.node)
 }
 
 // What args is made of on one side, where it is (c A B).
@@ -57,7 +46,7 @@ fn part_node(
     ch: Charges,
     args: usize,
     right: bool,
-) -> Got
+) -> Option<usize>
     requires { Ready form.now room.old ch args × Shows form.now room.old ch cons cons_pattern }
     ensures { GotOk form.now room.old room.new ch result (got_part right (tree_in form.now room.old args)) }
 {
@@ -82,13 +71,13 @@ fn cons_node(
     ch: Charges,
     args: usize,
     right: bool,
-) -> Made
+) -> Result<Made, Refusal>
     requires { Ready form.now room.old ch args × Shows form.now room.old ch cons cons_pattern }
     ensures { MadeOk form.now room.old room.new ch (part_cost (tree_in form.now room.old args)) (cons_part right (tree_in form.now room.old args)) result }
 {
     match part_node(form, room, cons, ch, args, right) {
-        Got::At(n) => Made::Node(n, ch),
-        Got::Nothing => call_node(form, room, ch, operator(right), args),
+        Some(node) => Ok(Made { node, ch }),
+        None => call_node(form, room, ch, operator(right), args),
     }
 }
 
@@ -118,36 +107,27 @@ fn path_from_args(
     ch: Charges,
     n: usize,
     args: usize,
-) -> Made
+) -> Result<Made, Refusal>
     requires { Named form.now room.old ch n × Ready form.now room.old ch args × Shows form.now room.old ch cons cons_pattern }
     ensures { MadeOk form.now room.old room.new ch (path_cost (sub_turns (bytes_at form.now room.old n)) (tree_in form.now room.old args)) (path_from_args (sub_turns (bytes_at form.now room.old n)) (tree_in form.now room.old args)) result }
 {
     let count = count_turns(form, room, ch, n);
-    let mut c = ch;
-    let mut a = args;
+    let mut made = Made { node: args, ch };
     for i in 0..count {
         let right = turn_at(form, room, n, i);
-        match cons_node(form, room, cons, c, a, right) {
-            Made::Refused(e) => return Made::Refused(e),
-            Made::Node(m, d) => {
-                a = m;
-                c = d;
-            }
-        }
+        made = cons_node(form, room, cons, made.ch, made.node, right)?;
     }
-    Made::Node(a, c)
+    Ok(made)
 }
 
 // ---- `sub_args`
 
 // An answer of a maker as one of substitution's.
-fn made(low: bool, m: Made) -> Sub
+fn made(low: bool, m: Result<Made, Refusal>) -> Result<Substituted, Refusal>
     ensures { result ≡ sub_made low m }
 {
-    match m {
-        Made::Refused(e) => Sub::Refused(e),
-        Made::Node(node, ch) => Sub::Done(Substituted { ch, low, node }),
-    }
+    let Made { node, ch } = m?;
+    Ok(Substituted { ch, low, node })
 }
 
 fn low_node(form: &[u8], room: &[u8], n: usize) -> bool
@@ -158,7 +138,14 @@ fn low_node(form: &[u8], room: &[u8], n: usize) -> bool
 }
 
 // An atom of the body: read as a path.
-fn sub_atom(form: &[u8], room: &mut [u8], cons: usize, ch: Charges, n: usize, args: usize) -> Sub
+fn sub_atom(
+    form: &[u8],
+    room: &mut [u8],
+    cons: usize,
+    ch: Charges,
+    n: usize,
+    args: usize,
+) -> Result<Substituted, Refusal>
     requires { Named form.now room.old ch n × Ready form.now room.old ch args × Shows form.now room.old ch cons cons_pattern }
     ensures { SubOk form.now room.old room.new ch (sub_cost (tree_in form.now room.old n) (tree_in form.now room.old args)) (sub_args (tree_in form.now room.old n) (tree_in form.now room.old args)) (reads_low (tree_in form.now room.old n)) result }
 {
@@ -168,12 +155,19 @@ fn sub_atom(form: &[u8], room: &mut [u8], cons: usize, ch: Charges, n: usize, ar
 
 // The head of a list that is no quote: an atom stays, and is not read; a pair is worked as a body.
 #[cycle(substituting)]
-fn sub_head(form: &[u8], room: &mut [u8], cons: usize, ch: Charges, f: usize, args: usize) -> Sub
+fn sub_head(
+    form: &[u8],
+    room: &mut [u8],
+    cons: usize,
+    ch: Charges,
+    f: usize,
+    args: usize,
+) -> Result<Substituted, Refusal>
     requires { Ready form.now room.old ch f × Ready form.now room.old ch args × Shows form.now room.old ch cons cons_pattern }
     ensures { SubOk form.now room.old room.new ch (head_cost (tree_in form.now room.old f) (tree_in form.now room.old args)) (head_tree (tree_in form.now room.old f) (tree_in form.now room.old args)) (head_low (tree_in form.now room.old f)) result }
 {
     match store::look_node(room, f) {
-        Cell::Atom => Sub::Done(Substituted {
+        Cell::Atom => Ok(Substituted {
             ch,
             low: false,
             node: f,
@@ -193,20 +187,16 @@ fn sub_list(
     low: bool,
     rest: usize,
     args: usize,
-) -> Sub
+) -> Result<Substituted, Refusal>
     requires { Ready form.now room.old ch first × Ready form.now room.old ch rest × Ready form.now room.old ch args × Shows form.now room.old ch cons cons_pattern }
     ensures { SubOk form.now room.old room.new ch (list_cost (tree_in form.now room.old rest) (tree_in form.now room.old args)) (list_tree (tree_in form.now room.old first) (tree_in form.now room.old rest) (tree_in form.now room.old args)) (list_low low (tree_in form.now room.old rest)) result }
 {
     if sexp::proper_list_node(form, room, rest) {
-        match sub_each(form, room, cons, ch, rest, args) {
-            Sub::Refused(e) => Sub::Refused(e),
-            Sub::Done(t) => {
-                let low = low || t.low;
-                made(low, store::pair_node(form, room, t.ch, first, t.node))
-            }
-        }
+        let t = sub_each(form, room, cons, ch, rest, args)?;
+        let low = low || t.low;
+        made(low, store::pair_node(form, room, t.ch, first, t.node))
     } else {
-        Sub::Done(Substituted {
+        Ok(Substituted {
             ch,
             low,
             node: args,
@@ -216,33 +206,43 @@ fn sub_list(
 
 // Each operand of the list.
 #[cycle(substituting)]
-fn sub_each(form: &[u8], room: &mut [u8], cons: usize, ch: Charges, list: usize, args: usize) -> Sub
+fn sub_each(
+    form: &[u8],
+    room: &mut [u8],
+    cons: usize,
+    ch: Charges,
+    list: usize,
+    args: usize,
+) -> Result<Substituted, Refusal>
     requires { Ready form.now room.old ch list × Ready form.now room.old ch args × Shows form.now room.old ch cons cons_pattern }
     ensures { SubOk form.now room.old room.new ch (sub_each_cost (tree_in form.now room.old list) (tree_in form.now room.old args)) (sub_each (tree_in form.now room.old list) (tree_in form.now room.old args)) (reads_low_each (tree_in form.now room.old list)) result }
 {
     match store::look_node(room, list) {
-        Cell::Atom => Sub::Done(Substituted {
+        Cell::Atom => Ok(Substituted {
             ch,
             low: false,
             node: list,
         }),
-        Cell::Pair(l, r) => match sub_body(form, room, cons, ch, l, args) {
-            Sub::Refused(e) => Sub::Refused(e),
-            Sub::Done(x) => match sub_each(form, room, cons, x.ch, r, args) {
-                Sub::Refused(e) => Sub::Refused(e),
-                Sub::Done(y) => {
-                    let low = x.low || y.low;
-                    made(low, store::pair_node(form, room, y.ch, x.node, y.node))
-                }
-            },
-        },
+        Cell::Pair(l, r) => {
+            let x = sub_body(form, room, cons, ch, l, args)?;
+            let y = sub_each(form, room, cons, x.ch, r, args)?;
+            let low = x.low || y.low;
+            made(low, store::pair_node(form, room, y.ch, x.node, y.node))
+        }
     }
 }
 
 // `sub_args` by the node of the one pattern that it reads: it runs once for each level of the body, so its frame must be small.
 // A quote is tested first: what is left is then one call for the head and one for the list.
 #[cycle(substituting)]
-fn sub_body(form: &[u8], room: &mut [u8], cons: usize, ch: Charges, body: usize, args: usize) -> Sub
+fn sub_body(
+    form: &[u8],
+    room: &mut [u8],
+    cons: usize,
+    ch: Charges,
+    body: usize,
+    args: usize,
+) -> Result<Substituted, Refusal>
     requires { Ready form.now room.old ch body × Ready form.now room.old ch args × Shows form.now room.old ch cons cons_pattern }
     ensures { SubOk form.now room.old room.new ch (sub_cost (tree_in form.now room.old body) (tree_in form.now room.old args)) (sub_args (tree_in form.now room.old body) (tree_in form.now room.old args)) (reads_low (tree_in form.now room.old body)) result }
 {
@@ -250,16 +250,14 @@ fn sub_body(form: &[u8], room: &mut [u8], cons: usize, ch: Charges, body: usize,
         Cell::Atom => sub_atom(form, room, cons, ch, body, args),
         Cell::Pair(f, rest) => {
             if sexp::is_byte_node(form, room, f, 1) {
-                return Sub::Done(Substituted {
+                return Ok(Substituted {
                     ch,
                     low: false,
                     node: body,
                 });
             }
-            match sub_head(form, room, cons, ch, f, args) {
-                Sub::Refused(e) => Sub::Refused(e),
-                Sub::Done(x) => { sub_list(form, room, cons, x.ch, x.node, x.low, rest, args) }
-            }
+            let x = sub_head(form, room, cons, ch, f, args)?;
+            sub_list(form, room, cons, x.ch, x.node, x.low, rest, args)
         }
     }
 }
@@ -272,7 +270,7 @@ pub fn sub_args(
     ch: Charges,
     body: usize,
     args: usize,
-) -> Sub
+) -> Result<Substituted, Refusal>
     requires { Ready form.now room.old ch body × Ready form.now room.old ch args × Patterned form.now room.old ch p }
     ensures { SubOk form.now room.old room.new ch (sub_cost (tree_in form.now room.old body) (tree_in form.now room.old args)) (sub_args (tree_in form.now room.old body) (tree_in form.now room.old args)) (reads_low (tree_in form.now room.old body)) result }
 {

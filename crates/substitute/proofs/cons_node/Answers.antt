@@ -5,8 +5,8 @@ use Rattle.substitute.proofs.cons_node.Goals as goal
 pub call_node-requires : goal.call_node-requires
 call_node-requires c = search part.cons_args
 
-pub returns-in-At : goal.returns-in-At
-returns-in-At c = search part.cons_found
+pub returns-in-Some : goal.returns-in-Some
+returns-in-Some c = search part.cons_found
 
-pub returns-in-Nothing : goal.returns-in-Nothing
-returns-in-Nothing c = search part.cons_called
+pub returns-in-None : goal.returns-in-None
+returns-in-None c = search part.cons_called
