@@ -1,4 +1,5 @@
 -- The entries that find looks at, what it finds and what lookup says of that: their needs, and that the answer is right. Assumes nothing.
+use Rattle.std.specs.Prelude.{Option, Some, None}
 use mathlib.Core.Path.{◌≡◌, refl, sym, ◌∙◌, ap}
 use mathlib.Core.List.{List}
 use mathlib.Core.Bool.{Bool, true, false, ◌&&◌}
@@ -19,8 +20,6 @@ use Rattle.run_state.specs.declared.Work.{Work}
 use Rattle.run_state.specs.State.{entry_at, Sounds}
 use Rattle.run_state.proofs.Entries.{few, sound_at}
 use Rattle.memo.specs.declared.Verdict.{Verdict}
-use Rattle.memo.specs.declared.Answer.{Answer}
-use Rattle.memo.specs.declared.Answer.TheVariants.{Unknown}
 use Rattle.memo.specs.Policy.{low_print, deep_limit, look_limit, alike_in, candidate, or_else, first_hit, hit_says, says_at, memo_says, unless_noted}
 use Rattle.memo.specs.Memo.{AnswerOk, Looked}
 use Rattle.memo.proofs.Comparing.{alike_right}
@@ -134,20 +133,20 @@ module _ (f s : List ℕ) (row : List (List ℕ)) (w : Work) (used n nest : ℕ)
           (λ y. let l = ltb-true i used y in rw y (hit_right f s w n nest (entry_at row i) (sound_at v i l) (hit_matches f s row n nest used look_limit 0 i e (omega arith)) r))
           (λ y. rw y (unknown f s w n nest))
 
-  looked : (a : Answer) → a ≡ memo_says f s row w used n nest → Looked f s row w used n nest Nothing a
+  looked : (a : Option Work) → a ≡ memo_says f s row w used n nest → Looked f s row w used n nest Nothing a
   unfolding unless_noted
   looked a e = record { right = rw e says_right; says = e }
 
   -- it is not asked
-  pub noting : (notes : Notes) → notes ≡ Counts → Looked f s row w used n nest notes Unknown
+  pub noting : (notes : Notes) → notes ≡ Counts → Looked f s row w used n nest notes None
   unfolding unless_noted
   noting notes e = rw e (record { right = unknown f s w n nest; says = refl })
 
   module _ (i : ℕ) (ei : i ≡ first_hit f s row n nest used look_limit 0) (notes : Notes) (silent : notes ≡ Nothing) where
-    pub miss : used ≤ i → Looked f s row w used n nest notes Unknown
+    pub miss : used ≤ i → Looked f s row w used n nest notes None
     unfolding memo_says says_at
-    miss l = rw silent (looked Unknown (rw (← ei, le-ltb i used l)))
+    miss l = rw silent (looked None (rw (← ei, le-ltb i used l)))
 
-    pub hit : i < used → (e : Entry) → e ≡ entry_at row i → (a : Answer) → a ≡ hit_says w e → Looked f s row w used n nest notes a
+    pub hit : i < used → (e : Entry) → e ≡ entry_at row i → (a : Option Work) → a ≡ hit_says w e → Looked f s row w used n nest notes a
     unfolding memo_says says_at
     hit l e ee a ea = rw silent (looked a (rw (← ei, lt-ltb i used l, ea, ee)))

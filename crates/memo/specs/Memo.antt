@@ -1,4 +1,5 @@
 -- What the memo is asked, and what it answers.
+use Rattle.std.specs.Prelude.{Option, Some, None}
 use Rattle.std.specs.Prelude.{ℕ, ◌<◌, ◌≤◌, ◌≡◌, List, false}
 use Rattle.meaning.specs.Tree.{equal_to}
 use Rattle.meaning.specs.Limits.{height_at}
@@ -13,8 +14,6 @@ use Rattle.run_state.specs.declared.State.{State}
 use Rattle.run_state.specs.declared.Notes.{Notes}
 use Rattle.run_state.specs.Work.{spent_of, Did}
 use Rattle.run_state.specs.State.{Valid}
-use Rattle.memo.specs.declared.Answer.{Answer}
-use Rattle.memo.specs.declared.Answer.TheVariants.{Known, Unknown}
 use Rattle.memo.specs.Policy.{memo_says, unless_noted, row_after, used_after}
 
 -- ---- a lookup
@@ -25,12 +24,12 @@ pub record Hit (f s : List ℕ) (w w' : Work) (n nest : ℕ) : Type 0 where
   pub grown : Grown f s s w.ch w'.ch
   pub mark : w'.mark ≡ w.mark
 
-unfoldable pub AnswerOk : List ℕ → List ℕ → Work → ℕ → ℕ → Answer → Type 0
-AnswerOk f s w n nest (Known w') = Hit f s w w' n nest
-AnswerOk f s w n nest Unknown = Unit
+unfoldable pub AnswerOk : List ℕ → List ℕ → Work → ℕ → ℕ → Option Work → Type 0
+AnswerOk f s w n nest (Some w') = Hit f s w w' n nest
+AnswerOk f s w n nest None = Unit
 
 -- what `lookup` answers: by the policy, and rightly
-pub record Looked (f s : List ℕ) (row : List (List ℕ)) (w : Work) (used n nest : ℕ) (notes : Notes) (a : Answer) : Type 0 where
+pub record Looked (f s : List ℕ) (row : List (List ℕ)) (w : Work) (used n nest : ℕ) (notes : Notes) (a : Option Work) : Type 0 where
   pub right : AnswerOk f s w n nest a
   pub says : a ≡ unless_noted notes (memo_says f s row w used n nest)
 

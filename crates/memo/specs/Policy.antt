@@ -1,4 +1,5 @@
 -- The memo's policy: when two expressions are found to be the same, which entry is a hit, what it says, and what is stored.
+use Rattle.std.specs.Prelude.{Option, Some, None}
 use Rattle.std.specs.Prelude.{ℕ, zero, suc, ◌+◌, ◌-◌, ◌%◌, List, Bool, true, false, not, ◌&&◌, length, set, eqb, leb, ltb}
 use Rattle.meaning.specs.Limits.{unit_limit, pass_limit, height_at}
 use Rattle.store.specs.Cells.{pick}
@@ -16,8 +17,6 @@ use Rattle.sexp.specs.declared.Compared.{Compared}
 use Rattle.sexp.specs.declared.Compared.TheVariants.{Told, Parts}
 use Rattle.sexp.specs.Canon.{compared}
 use Rattle.memo.specs.declared.Verdict.{Verdict}
-use Rattle.memo.specs.declared.Answer.{Answer}
-use Rattle.memo.specs.declared.Answer.TheVariants.{Known, Unknown}
 
 -- what an entry holds of a fingerprint
 abbrev pub low_print : ℕ → ℕ
@@ -84,24 +83,24 @@ unfoldable pub work_hit : Work → Entry → Work
 work_hit w e = record { ch = spend w.ch e.units; passes = w.passes + e.passes; mark = w.mark; last = pick (eqb e.expr e.result) Same (Changed e.result) }
 
 -- what a hit says: that work, unless units or passes would cross their limits
-unfoldable pub hit_says : Work → Entry → Answer
+unfoldable pub hit_says : Work → Entry → Option Work
 unfolding work_hit
-hit_says w e = pick (leb (w.ch.units + e.units) unit_limit && leb (w.passes + e.passes) pass_limit) (Known (work_hit w e)) Unknown
+hit_says w e = pick (leb (w.ch.units + e.units) unit_limit && leb (w.passes + e.passes) pass_limit) (Some (work_hit w e)) None
 
 -- what a place says: the hit there, if it is one in use
-unfoldable pub says_at : List (List ℕ) → Work → ℕ → ℕ → Answer
+unfoldable pub says_at : List (List ℕ) → Work → ℕ → ℕ → Option Work
 unfolding hit_says
-says_at row w used i = pick (ltb i used) (hit_says w (entry_at row i)) Unknown
+says_at row w used i = pick (ltb i used) (hit_says w (entry_at row i)) None
 
 -- what the memo says of a call on n at nesting `nest`: what the first hit says, with one budget of looks
-unfoldable pub memo_says : List ℕ → List ℕ → List (List ℕ) → Work → ℕ → ℕ → ℕ → Answer
+unfoldable pub memo_says : List ℕ → List ℕ → List (List ℕ) → Work → ℕ → ℕ → ℕ → Option Work
 unfolding first_hit says_at
 memo_says f s row w used n nest = says_at row w used (first_hit f s row n nest used look_limit 0)
 
 -- where something is noted the memo is not asked: a hit would skip it
-unfoldable pub unless_noted : Notes → Answer → Answer
+unfoldable pub unless_noted : Notes → Option Work → Option Work
 unless_noted Nothing a = a
-unless_noted Counts a = Unknown
+unless_noted Counts a = None
 
 -- ---- storing
 

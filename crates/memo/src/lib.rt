@@ -13,13 +13,6 @@ use run_state::{Entry, Notes, Outcome, Record, State, Work};
 use sexp::Compared;
 use store::Charges;
 
-// What the memo says of a call: the work after it, or nothing.
-#[derive(Clone, Copy)]
-pub enum Answer {
-    Known(Work),
-    Unknown,
-}
-
 // Whether two trees were found to be the same, and how many looks are left.
 #[derive(Clone, Copy)]
 pub(crate) struct Verdict {
@@ -198,38 +191,32 @@ fn find<'a>(
 }
 
 // A hit charges what the entry says; where that would cross a limit the call is to be worked afresh.
-fn charged(w: Work, e: Entry) -> Answer
+fn charged(w: Work, e: Entry) -> Option<Work>
     requires { (w.ch.units ≤ unit_limit) × (w.passes ≤ pass_limit) }
     ensures { result ≡ hit_says w e }
 {
-    let c = w.ch;
-    let units = c.units + wide(e.units);
+    let units = w.ch.units + wide(e.units);
     let passes = w.passes + wide(e.passes);
     if 32768 < units {
-        return Answer::Unknown;
+        return None;
     }
     if 65536 < passes {
-        return Answer::Unknown;
+        return None;
     }
-    let d = Charges {
-        units: units,
-        free: c.free,
-        end: c.end,
-        top: c.top,
-    };
+    let ch = Charges { units, ..w.ch };
     if e.expr == e.result {
-        return Answer::Known(Work {
-            ch: d,
-            passes: passes,
-            mark: w.mark,
+        return Some(Work {
+            ch,
+            passes,
             last: Outcome::Same,
+            ..w
         });
     }
-    Answer::Known(Work {
-        ch: d,
-        passes: passes,
-        mark: w.mark,
+    Some(Work {
+        ch,
+        passes,
         last: Outcome::Changed(wide(e.result)),
+        ..w
     })
 }
 
@@ -243,19 +230,19 @@ pub fn lookup<'a>(
     n: usize,
     nest: usize,
     notes: Notes,
-) -> Answer
+) -> Option<Work>
     requires { Ready form.now room.now w.ch n × Sounds form.now room.now w.ch w.mark used row.now × (nest < 65) × (w.passes ≤ pass_limit) }
     ensures { Looked form.now room.now row.now w used n nest notes result }
 {
     match notes {
         Notes::Counts => {
-            return Answer::Unknown;
+            return None;
         }
         Notes::Nothing => {}
     }
     let i = find(form, room, row, w, used, n, nest);
     if used <= i {
-        return Answer::Unknown;
+        return None;
     }
     let e = entry_at(row, i);
     charged(w, e)
