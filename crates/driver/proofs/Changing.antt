@@ -1,4 +1,5 @@
 -- var_change_optimizer_cons_eval: each return and each call. Assumes nothing.
+use Rattle.std.specs.Prelude.{Result, Ok, Err, Option as Perhaps, Some, None}
 use mathlib.Core.Path.{◌≡◌, sym, ◌∙◌, ap}
 use mathlib.Core.List.{List}
 use Prim.Native.Nat.{ℕ, ◌+◌}
@@ -20,12 +21,9 @@ use Rattle.store.proofs.Ready.{grown_both, grown_tree}
 use Rattle.patterns.specs.declared.Patterns.{Patterns}
 use Rattle.patterns.specs.Patterns.{Patterned}
 use Rattle.patterns.proofs.Laws.{patterned_grown}
-use Rattle.substitute.specs.declared.Sub.{Sub}
-use Rattle.substitute.specs.declared.Sub.TheVariants.{Done, Refused}
 use Rattle.substitute.specs.declared.Substituted.{Substituted}
 use Rattle.substitute.specs.Sub.{Replaced, SubOk}
 use Rattle.rules.specs.declared.Applied.{Applied}
-use Rattle.rules.specs.declared.Applied.TheVariants.{Call, Other}
 use Rattle.run_state.specs.declared.Outcome.TheVariants.{Same, Stopped}
 use Rattle.run_state.specs.declared.Work.{Work}
 use Rattle.run_state.specs.declared.Notes.{Notes}
@@ -41,26 +39,32 @@ use Rattle.run_state.specs.State.{Sounds}
 use Rattle.run_state.proofs.Entries.{sounds_grown}
 use Rattle.driver_parts.proofs.Kept.{fine_kept, fine_same}
 
-module _ (f : List ℕ) (p : Patterns) (room : List ℕ) (w : Work) (n : ℕ) (h : Fine f room w p n) (r₀ : List ℕ) (a : Applied) (ok : AppliedOk f room r₀ w.ch a (applied_of (tree_at f room n))) where
+module _ (f : List ℕ) (p : Patterns) (room : List ℕ) (w : Work) (n : ℕ) (h : Fine f room w p n) (r₀ : List ℕ) (a : Perhaps Applied) (ok : AppliedOk f room r₀ w.ch a (applied_of (tree_at f room n))) where
   abbrev x : Tree
   x = tree_at f room n
 
   abbrev def : ℕ → Out Spent Tree
   def nest = var_change_optimizer_cons_eval (again nest) x (spent_of w)
 
-  pub change_none : (nest : ℕ) (q : Work) → q ≡ with_last w Same → a ≡ Other → Did f room r₀ w (tree_at f room n) (var_change_optimizer_cons_eval (again nest) (tree_at f room n) (spent_of w)) q
+  pub change_none : (nest : ℕ) (q : Work) → q ≡ with_last w Same → a ≡ None → Did f room r₀ w (tree_at f room n) (var_change_optimizer_cons_eval (again nest) (tree_at f room n) (spent_of w)) q
   unfolding applied_at var_change_optimizer_cons_eval
   change_none nest q eq e =
       let z : not_applied ≡ applied_of x = rw e at ok.answer in
       did_same f room r₀ w q _ _ eq ok.grown (rw (← z, var_change_optimizer_cons_eval_over))
 
-  pub change_none_noted : (nest : ℕ) (notes : Notes) (row : List (List ℕ)) → a ≡ Other → Noted notes row row (rule_ends (height_at (nest + 1)) 4 (tree_at f room n) (spent_of w))
+  pub change_none_noted : (nest : ℕ) (notes : Notes) (row : List (List ℕ)) → a ≡ None → Noted notes row row (rule_ends (height_at (nest + 1)) 4 (tree_at f room n) (spent_of w))
   unfolding applied_at
   change_none_noted nest notes row e =
       let z : not_applied ≡ applied_of x = rw e at ok.answer in
       noted_empty notes row _ (log.not_applied_ends (height_at (nest + 1)) x (sym z) (spent_of w))
 
-  module _ (b s : ℕ) (e : a ≡ Call b s) where
+  module _ (at_call : Applied) (e : a ≡ Some at_call) where
+    abbrev b : ℕ
+    b = at_call.body
+
+    abbrev s : ℕ
+    s = at_call.args
+
     abbrev y : Tree
     y = tree_at f r₀ b
 
@@ -82,8 +86,8 @@ module _ (f : List ℕ) (p : Patterns) (room : List ℕ) (w : Work) (n : ℕ) (h
     unfolding var_change_optimizer_cons_eval
     is_call nest = rw (call, var_change_optimizer_cons_eval_over)
 
-    module _ (r₁ : List ℕ) (u : Sub) (d : SubOk f r₀ r₁ w.ch (sub_cost (tree_at f r₀ b) (tree_at f r₀ s)) (sub_args (tree_at f r₀ b) (tree_at f r₀ s)) (reads_low (tree_at f r₀ b)) u) where
-      pub change_over : (nest : ℕ) (r : Refusal) (q : Work) → q ≡ with_last w (Stopped r) → u ≡ Refused r → Did f room r₁ w (tree_at f room n) (var_change_optimizer_cons_eval (again nest) (tree_at f room n) (spent_of w)) q
+    module _ (r₁ : List ℕ) (u : Result Substituted Refusal) (d : SubOk f r₀ r₁ w.ch (sub_cost (tree_at f r₀ b) (tree_at f r₀ s)) (sub_args (tree_at f r₀ b) (tree_at f r₀ s)) (reads_low (tree_at f r₀ b)) u) where
+      pub change_over : (nest : ℕ) (r : Refusal) (q : Work) → q ≡ with_last w (Stopped r) → u ≡ Err r → Did f room r₁ w (tree_at f room n) (var_change_optimizer_cons_eval (again nest) (tree_at f room n) (spent_of w)) q
       unfolding SubOk
       change_over nest r q eq eu =
           let o : Over w.ch (sub_cost y z) r = rw eu at d in
@@ -92,13 +96,13 @@ module _ (f : List ℕ) (p : Patterns) (room : List ℕ) (w : Work) (n : ℕ) (h
           ∙ seq_stop (charge (sub_cost y z)) (settle (again nest) x (sub_args y z) (reads_low y)) (spent_of w) _ UnitsOut (charge_fails (sub_cost y z) (spent_of w) o.over)
           ∙ ap (λ (t : Refusal). stop t (record { units = unit_limit; passes = w.passes; mark = w.mark })) (sym o.refusal))
 
-      pub change_over_noted : (nest : ℕ) (r : Refusal) (notes : Notes) (row : List (List ℕ)) → u ≡ Refused r → Noted notes row row (rule_ends (height_at (nest + 1)) 4 (tree_at f room n) (spent_of w))
+      pub change_over_noted : (nest : ℕ) (r : Refusal) (notes : Notes) (row : List (List ℕ)) → u ≡ Err r → Noted notes row row (rule_ends (height_at (nest + 1)) 4 (tree_at f room n) (spent_of w))
       unfolding SubOk
       change_over_noted nest r notes row eu =
           let o : Over w.ch (sub_cost y z) r = rw eu at d in
           noted_empty notes row _ (log.uncharged_ends (height_at (nest + 1)) x y z call (spent_of w) UnitsOut _ (charge_fails (sub_cost y z) (spent_of w) o.over))
 
-      module _ (v : Substituted) (eu : u ≡ Done v) where
+      module _ (v : Substituted) (eu : u ≡ Ok v) where
         abbrev w' : Work
         w' = record { ch = v.ch; passes = w.passes; mark = w.mark; last = Same }
 

@@ -1,4 +1,5 @@
 -- The memo in the driver's cycle: every entry stays valid, and what ended is stored. Assumes nothing.
+use Rattle.std.specs.Prelude.{Result, Ok, Err, Option as Perhaps, Some, None}
 use mathlib.Core.Path.{◌≡◌, refl, sym, ◌∙◌, ap, subst}
 use mathlib.Core.List.{List}
 use mathlib.Core.Bool.{Bool, true, false, ◌||◌}
@@ -27,14 +28,11 @@ use Rattle.run_state.specs.declared.Work.{Work}
 use Rattle.run_state.specs.Work.{spent_of, with_last, Says, Did}
 use Rattle.run_state.proofs.Does.{says_same, says_changed}
 use Rattle.driver_parts.specs.declared.Element.{Element}
-use Rattle.driver_parts.specs.declared.Element.TheVariants.{Put}
 use Rattle.driver_parts.specs.Turns.{again, optimizer, one_turn, Fine, kept, KeptBody, KeptList, Started, EndsAt, Begins, Begun, outcome_of}
 use Rattle.driver_parts.specs.Walk.{wrap, Walks, Walked, PutBefore, Became}
 use Rattle.driver_parts.proofs.Kept.{fine_fits}
 use Rattle.driver_parts.proofs.Numbers.{rule_marks}
 use Rattle.driver_parts.proofs.Looping.{Looping, loop_ends}
-use Rattle.memo.specs.declared.Answer.{Answer}
-use Rattle.memo.specs.declared.Answer.TheVariants.{Known}
 use Rattle.run_state.specs.declared.State.{State}
 use Rattle.run_state.specs.State.{Sounds, Valid, UnlessStopped, Still}
 use Rattle.memo.specs.Memo.{Hit, AnswerOk, Ended, Kept}
@@ -165,11 +163,11 @@ put_still f s t row st q got k z v = go st.w.last refl z
     go (Stopped u) e z = rw (z.work, z.room) v
 
 -- an element that was not refused
-pub element_valid : (f s : List ℕ) (row : List (List ℕ)) (st : State) (h : ℕ) (count flag : Bool) (z : Element) (m : ℕ) (b : Bool) → Became f s h count flag z st.w.last → z ≡ Put m b → Still f s row st → Valid f s row st
+pub element_valid : (f s : List ℕ) (row : List (List ℕ)) (st : State) (h : ℕ) (count flag : Bool) (z : Perhaps Element) (m : Element) → Became f s h count flag z st.w.last → z ≡ Some m → Still f s row st → Valid f s row st
 unfolding Became
-element_valid f s row st h count flag z m b y e v = go st.w.last refl (subst (λ (a : Element). Became f s h count flag a st.w.last) e y)
+element_valid f s row st h count flag z m y e v = go st.w.last refl (subst (λ (a : Perhaps Element). Became f s h count flag a st.w.last) e y)
   where
-    go : (o : Outcome) → st.w.last ≡ o → Became f s h count flag (Put m b) o → Valid f s row st
+    go : (o : Outcome) → st.w.last ≡ o → Became f s h count flag (Some m) o → Valid f s row st
     go Same i q = valid_same f s row st i v
     go (Changed n) i q = valid_changed f s row st n i v
     go (Stopped u) i q = absurd q
@@ -186,7 +184,7 @@ atom_still f s row st b q n m d e eq v =
 
 -- a hit
 
-module _ (f s : List ℕ) (st : State) (n nest : ℕ) (a : Answer) (k : AnswerOk f s st.w n nest a) (d : Work) (e : a ≡ Known d) where
+module _ (f s : List ℕ) (st : State) (n nest : ℕ) (a : Perhaps Work) (k : AnswerOk f s st.w n nest a) (d : Work) (e : a ≡ Some d) where
   hit : Hit f s st.w d n nest
   unfolding AnswerOk
   hit = rw e at k

@@ -1,4 +1,5 @@
 -- What is noted in the driver's cycle: each return, and what is left to note at each loop's head. Assumes nothing.
+use Rattle.std.specs.Prelude.{Result, Ok, Err, Option as Perhaps, Some, None}
 use mathlib.Core.Path.{◌≡◌, refl, sym, ◌∙◌, ap, subst}
 use mathlib.Core.List.{List, [], ◌++◌, append-nil}
 use mathlib.Core.Bool.{Bool, true, false, not}
@@ -36,13 +37,10 @@ use Rattle.run_state.specs.Notes.{count_records, noted, Noted, as_counted, count
 use Rattle.run_state.proofs.Entries.{few}
 use Rattle.run_state.proofs.Does.{says_same, says_changed, says_stopped}
 use Rattle.run_state.proofs.Noting.{Sofar, sofar_on, sofar_last, sofar_ends, noted_empty, noted_as, noted_end, noted_nothing, sounds_noted, counts_stored}
-use Rattle.memo.specs.declared.Answer.{Answer}
-use Rattle.memo.specs.declared.Answer.TheVariants.{Known, Unknown}
 use Rattle.memo.specs.Policy.{unless_noted, is_stored, row_after}
 use Rattle.memo.specs.Memo.{Looked, Stored}
 use Rattle.memo.proofs.Storing.{has_room}
 use Rattle.driver_parts.specs.declared.Element.{Element}
-use Rattle.driver_parts.specs.declared.Element.TheVariants.{Put, Refused}
 use Rattle.driver_parts.specs.Turns.{again, optimizer, one_turn, Fine, Started, EndsAt, PassesOut, Begins, Begun}
 use Rattle.driver_parts.specs.Walk.{Became}
 use Rattle.driver_parts.proofs.Settling.{not_yes, not_no}
@@ -174,21 +172,21 @@ module _ (f : List ℕ) (p : Patterns) (nest list : ℕ) (count flag : Bool) (ro
       went_on : (u : Tree) → optimize_sexp down (tree_at f room h) (spent_of w) ≡ done u (spent_of w₁) → tree_at f r₁ t ≡ tree_at f room t → Sofar notes row₀ row₁ whole (ends_over down (tree_at f r₁ t) (spent_of w₁))
       went_on u e g = rw g (sofar_on row₁ _ _ j k₁ (split _ (over_done down _ _ u (spent_of w) (spent_of w₁) e)))
 
-      module _ (z : Element) (y : Became f r₁ h count seen z w₁.last) where
-        pub refused_noted : z ≡ Refused → Noted notes row₀ row₁ (ends_over (height_at (nest + 1)) (tree_at f room₀ list) (spent_of w₀))
+      module _ (z : Perhaps Element) (y : Became f r₁ h count seen z w₁.last) where
+        pub refused_noted : z ≡ None → Noted notes row₀ row₁ (ends_over (height_at (nest + 1)) (tree_at f room₀ list) (spent_of w₀))
         unfolding Became
-        refused_noted e = go w₁.last refl (subst (λ (v : Element). Became f r₁ h count seen v w₁.last) e y)
+        refused_noted e = go w₁.last refl (subst (λ (v : Perhaps Element). Became f r₁ h count seen v w₁.last) e y)
           where
-            go : (o : Outcome) → w₁.last ≡ o → Became f r₁ h count seen Refused o → Noted notes row₀ row₁ whole
+            go : (o : Outcome) → w₁.last ≡ o → Became f r₁ h count seen None o → Noted notes row₀ row₁ whole
             go Same m v = absurd v
             go (Changed n) m v = absurd v
             go (Stopped n) m v = stopped n m
 
-        pub put_noted : (m : ℕ) (b : Bool) → z ≡ Put m b → Sofar notes row₀ row₁ (ends_over (height_at (nest + 1)) (tree_at f room₀ list) (spent_of w₀)) (ends_over (height_at (nest + 1)) (tree_at f r₁ t) (spent_of w₁))
+        pub put_noted : (m : Element) → z ≡ Some m → Sofar notes row₀ row₁ (ends_over (height_at (nest + 1)) (tree_at f room₀ list) (spent_of w₀)) (ends_over (height_at (nest + 1)) (tree_at f r₁ t) (spent_of w₁))
         unfolding Became
-        put_noted m b e = go w₁.last refl (subst (λ (v : Element). Became f r₁ h count seen v w₁.last) e y)
+        put_noted m e = go w₁.last refl (subst (λ (v : Perhaps Element). Became f r₁ h count seen v w₁.last) e y)
           where
-            go : (o : Outcome) → w₁.last ≡ o → Became f r₁ h count seen (Put m b) o → Sofar notes row₀ row₁ whole (ends_over down (tree_at f r₁ t) (spent_of w₁))
+            go : (o : Outcome) → w₁.last ≡ o → Became f r₁ h count seen (Some m) o → Sofar notes row₀ row₁ whole (ends_over down (tree_at f r₁ t) (spent_of w₁))
             go Same l v = let u = says_same f room r₁ w w₁ _ _ d l in went_on _ u.gives (grown_tree u.grown (ready_right f room w.ch q h t a pa ea i.fine.ready))
             go (Changed n) l v = let u = says_changed f room r₁ w w₁ _ _ d n l in went_on _ u.gives (grown_tree u.grown (ready_right f room w.ch q h t a pa ea i.fine.ready))
             go (Stopped n) l v = absurd v
@@ -295,10 +293,10 @@ too_deep_noted f nest room w n notes row l =
     noted_empty notes row _ (ap (λ (k : ℕ). ends k (tree_at f room n) (spent_of w)) z ∙ log.deep_ends zero (tree_at f room n) (spent_of w))
 
 -- a hit: nothing is noted
-pub hit_noted : (f s : List ℕ) (row : List (List ℕ)) (w : Work) (used n nest : ℕ) (notes : Notes) (a : Answer) (l : Log) → Looked f s row w used n nest notes a → (d : Work) → a ≡ Known d → Noted notes row row l
+pub hit_noted : (f s : List ℕ) (row : List (List ℕ)) (w : Work) (used n nest : ℕ) (notes : Notes) (a : Perhaps Work) (l : Log) → Looked f s row w used n nest notes a → (d : Work) → a ≡ Some d → Noted notes row row l
 unfolding unless_noted
 hit_noted f s row w used n nest Nothing a l k d e = noted_nothing row l
-hit_noted f s row w used n nest Counts a l k d e = let z : Known d ≡ Unknown = sym e ∙ k.says in let y : ◌≡◌ {A = ℕ} 0 1 = cc in absurd (omega arith)
+hit_noted f s row w used n nest Counts a l k d e = let z : Some d ≡ None = sym e ∙ k.says in let y : ◌≡◌ {A = ℕ} 0 1 = cc in absurd (omega arith)
 
 -- storing leaves what is noted
 stored_counts : (f s : List ℕ) (row row₁ : List (List ℕ)) (st : State) (b : Work) (n r nest : ℕ) → row₁ ≡ row_after f s row st b n r nest → counts_of row₁ ≡ counts_of row

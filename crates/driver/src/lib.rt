@@ -16,14 +16,10 @@ ghost use Rattle.driver_parts.specs.Turns.{again, optimizer, one_turn, Fine, fre
 ghost use Rattle.driver_parts.specs.Walk.{walk, Walked};
 ghost use Rattle.driver.specs.Alone.{one_rule};
 
-use driver_parts::Element;
-use memo::Answer;
 use patterns::Patterns;
 use refusals::Refusal;
-use rules::Applied;
 use run_state::{Notes, Outcome, Record, State, Work};
 use store::{Cell, Charges};
-use substitute::Sub;
 
 // Works a list's elements left to right, 48 at a time; what was found goes down, the verdict comes up, and then the list is made.
 #[cycle(driving)]
@@ -47,29 +43,23 @@ fn operands(
     let mut seen = flag;
     let mut got: [u16; 48] = [0; 48];
     let mut k: usize = 0;
-    loop {
+    'elements: loop {
         match store::look_node(room, q) {
             Cell::Atom => {
-                let c = s.w;
                 let make = driver_parts::is_made(count, seen);
-                let d = driver_parts::build(form, room, c, got, k, q, make);
-                s.w = d;
+                s.w = driver_parts::build(form, room, s.w, got, k, q, make);
                 return s;
             }
             Cell::Pair(h, t) => {
                 if 48 <= k {
                     s = operands(form, room, row, p, s, q, nest, count, seen, notes);
-                    let c = s.w;
-                    let d = driver_parts::put_before(form, room, c, got, k);
-                    s.w = d;
+                    s.w = driver_parts::put_before(form, room, s.w, got, k);
                     return s;
                 }
                 match store::look_node(room, h) {
                     Cell::Atom => {
                         if 64 <= nest {
-                            let c = s.w;
-                            let d = run_state::with(c, Outcome::Stopped(Refusal::TooDeep));
-                            s.w = d;
+                            s.w = run_state::with(s.w, Outcome::Stopped(Refusal::TooDeep));
                             return s;
                         }
                         got[k] = h as u16;
@@ -78,15 +68,12 @@ fn operands(
                     }
                     Cell::Pair(_, _) => {
                         s = drive(form, room, row, p, s, h, nest + 1, notes);
-                        let c = s.w;
-                        match driver_parts::worked_into(form, room, c, h, count, seen) {
-                            Element::Refused => {
-                                return s;
-                            }
-                            Element::Put(m, b) => {
-                                got[k] = m;
+                        match driver_parts::worked_into(form, room, s.w, h, count, seen) {
+                            None => return s,
+                            Some(element) => {
+                                got[k] = element.node;
                                 k += 1;
-                                seen = b;
+                                seen = element.flag;
                                 q = t;
                             }
                         }
@@ -117,24 +104,17 @@ fn settle(
     ensures { Did form.now room.old room.new st.w (tree_in form.now room.old r) (settle (again nest) (tree_in form.now room.old r) (tree_in form.now room.old new) low (spent_of st.w)) result.w × Still form.now room.new row.new result × Noted notes row.old row.new (settle_ends (height_at (nest + 1)) (tree_in form.now room.old r) (tree_in form.now room.old new) low (spent_of st.w)) }
 {
     let mut s = st;
-    let c = s.w;
-    let ch = c.ch;
-    if seems::seems_constant(form, room, ch, new) {
+    if seems::seems_constant(form, room, s.w.ch, new) {
         s = drive(form, room, row, p, s, new, nest + 1, notes);
-        let d = s.w;
-        let e = driver_parts::keep_body(form, room, d, r, new, low);
-        s.w = e;
+        s.w = driver_parts::keep_body(form, room, s.w, r, new, low);
         return s;
     }
     if !sexp::proper_list_node(form, room, new) {
-        let d = run_state::with(c, Outcome::Same);
-        s.w = d;
+        s.w = run_state::with(s.w, Outcome::Same);
         return s;
     }
     s = operands(form, room, row, p, s, new, nest, true, false, notes);
-    let d = s.w;
-    let e = driver_parts::keep_list(form, room, d, r, low);
-    s.w = e;
+    s.w = driver_parts::keep_list(form, room, s.w, r, low);
     s
 }
 
@@ -153,33 +133,24 @@ fn var_change_optimizer_cons_eval(
     ensures { Did form.now room.old room.new st.w (tree_in form.now room.old n) (var_change_optimizer_cons_eval (again nest) (tree_in form.now room.old n) (spent_of st.w)) result.w × Still form.now room.new row.new result × Noted notes row.old row.new (rule_ends (height_at (nest + 1)) 4 (tree_in form.now room.old n) (spent_of st.w)) }
 {
     let mut s = st;
-    let c = s.w;
-    let ch = c.ch;
-    match rules::applied_of(form, room, p, ch, n) {
-        Applied::Other => {
-            let d = run_state::with(c, Outcome::Same);
-            s.w = d;
-            return s;
+    match rules::applied_of(form, room, p, s.w.ch, n) {
+        None => {
+            s.w = run_state::with(s.w, Outcome::Same);
+            s
         }
-        Applied::Call(b, a) => match substitute::sub_args(form, room, p, ch, b, a) {
-            Sub::Refused(e) => {
-                let d = run_state::with(c, Outcome::Stopped(e));
-                s.w = d;
-                return s;
+        Some(call) => {
+            match substitute::sub_args(form, room, p, s.w.ch, call.body, call.args) {
+                Err(e) => {
+                    s.w = run_state::with(s.w, Outcome::Stopped(e));
+                    s
+                }
+                Ok(x) => {
+                    s.w.ch = x.ch;
+                    s.w.last = Outcome::Same;
+                    settle(form, room, row, p, s, n, x.node, x.low, nest, notes)
+                }
             }
-            Sub::Done(x) => {
-                let g = x.ch;
-                let d = Work {
-                    ch: g,
-                    passes: c.passes,
-                    mark: c.mark,
-                    last: Outcome::Same,
-                };
-                s.w = d;
-                s = settle(form, room, row, p, s, n, x.node, x.low, nest, notes);
-                return s;
-            }
-        },
+        }
     }
 }
 
@@ -200,19 +171,15 @@ fn children_optimizer(
     ensures { Did form.now room.old room.new st.w (tree_in form.now room.old n) (children_optimizer (again nest) (tree_in form.now room.old n) (spent_of st.w)) result.w × Still form.now room.new row.new result × Noted notes row.old row.new (rule_ends (height_at (nest + 1)) 5 (tree_in form.now room.old n) (spent_of st.w)) }
 {
     let mut s = st;
-    let c = s.w;
     if rules::is_quote_node(form, room, n) {
-        let d = run_state::with(c, Outcome::Same);
-        s.w = d;
+        s.w = run_state::with(s.w, Outcome::Same);
         return s;
     }
     if !sexp::proper_list_node(form, room, n) {
-        let d = run_state::with(c, Outcome::Same);
-        s.w = d;
+        s.w = run_state::with(s.w, Outcome::Same);
         return s;
     }
-    s = operands(form, room, row, p, s, n, nest, false, false, notes);
-    s
+    operands(form, room, row, p, s, n, nest, false, false, notes)
 }
 
 // ---- the rules, by number
@@ -239,9 +206,7 @@ fn optimizer(
         return children_optimizer(form, room, row, p, st, n, nest, notes);
     }
     let mut s = st;
-    let c = s.w;
-    let d = driver_parts::simple(form, room, p, c, n, rule);
-    s.w = d;
+    s.w = driver_parts::simple(form, room, p, s.w, n, rule);
     s
 }
 
@@ -263,27 +228,19 @@ fn turn(
     ensures { Did form.now room.old room.new st.w (tree_in form.now room.old n) (one_turn (again nest) (tree_in form.now room.old n) (spent_of st.w)) result.w × Still form.now room.new row.new result × Noted notes row.old row.new (turn_ends (height_at (nest + 1)) (tree_in form.now room.old n) (spent_of st.w)) }
 {
     let mut s = st;
-    let c = s.w;
-    let b = driver_parts::begin(form, room, c, n);
-    s.w = b;
-    let v = b.last;
-    match v {
+    s.w = driver_parts::begin(form, room, s.w, n);
+    match s.w.last {
         Outcome::Changed(_) => {
-            let d = run_state::with(b, Outcome::Same);
-            s.w = d;
+            s.w = run_state::with(s.w, Outcome::Same);
             return s;
         }
-        Outcome::Stopped(_) => {
-            return s;
-        }
+        Outcome::Stopped(_) => return s,
         Outcome::Same => {}
     }
     let mut rule: usize = 1;
     while rule < 9 {
         s = optimizer(form, room, row, p, s, n, nest, rule, notes);
-        let e = s.w;
-        let o = e.last;
-        match o {
+        match s.w.last {
             Outcome::Same => {
                 rule += 1;
             }
@@ -291,9 +248,7 @@ fn turn(
                 run_state::note(row, notes, rule);
                 return s;
             }
-            Outcome::Stopped(_) => {
-                return s;
-            }
+            Outcome::Stopped(_) => return s,
         }
     }
     s
@@ -315,39 +270,27 @@ pub fn drive(
     ensures { Did form.now room.old room.new st.w (tree_in form.now room.old n) (optimize_sexp (height_at nest) (tree_in form.now room.old n) (spent_of st.w)) result.w × Still form.now room.new row.new result × Noted notes row.old row.new (ends (height_at nest) (tree_in form.now room.old n) (spent_of st.w)) }
 {
     let mut s = st;
-    let c = s.w;
     if 65 <= nest {
-        let d = run_state::with(c, Outcome::Stopped(Refusal::TooDeep));
-        s.w = d;
+        s.w = run_state::with(s.w, Outcome::Stopped(Refusal::TooDeep));
         return s;
     }
-    let used = s.used;
-    match memo::lookup(form, room, row, c, used, n, nest, notes) {
-        Answer::Known(d) => {
-            s.w = d;
-            return s;
-        }
-        Answer::Unknown => {}
+    if let Some(known) = memo::lookup(form, room, row, s.w, s.used, n, nest, notes) {
+        s.w = known;
+        return s;
     }
     let mut r = n;
     let mut moved = false;
     loop {
         s = turn(form, room, row, p, s, r, nest, notes);
-        let e = s.w;
-        let o = e.last;
-        match o {
-            Outcome::Stopped(_) => {
-                return s;
-            }
+        match s.w.last {
+            Outcome::Stopped(_) => return s,
             Outcome::Changed(m) => {
                 r = m;
                 moved = true;
             }
             Outcome::Same => {
-                let d = driver_parts::finish(e, r, moved);
-                s.w = d;
-                s = memo::store(form, room, row, s, c, n, r, nest);
-                return s;
+                s.w = driver_parts::finish(s.w, r, moved);
+                return memo::store(form, room, row, s, st.w, n, r, nest);
             }
         }
     }
@@ -358,12 +301,12 @@ fn fresh(ch: Charges) -> State
     ensures { (result.w ≡ fresh_work ch) × (result.used ≡ 0) }
 {
     let w = Work {
-        ch: ch,
+        ch,
         passes: 0,
         mark: false,
         last: Outcome::Same,
     };
-    State { w: w, used: 0 }
+    State { w, used: 0 }
 }
 
 // `optimize_sexp`: the outermost call. What is noted stands in the row.
@@ -379,9 +322,7 @@ pub fn optimize_node(
     requires { Ready form.now room.old ch n × Patterned form.now room.old ch p × (count_records ≤ length row.old) }
     ensures { Did form.now room.old room.new (fresh_work ch) (tree_in form.now room.old n) (optimize_sexp nesting_limit (tree_in form.now room.old n) (spent_of (fresh_work ch))) result × Noted notes row.old row.new (ends nesting_limit (tree_in form.now room.old n) (spent_of (fresh_work ch))) }
 {
-    let s = fresh(ch);
-    let r = drive(form, room, row, p, s, n, 1, notes);
-    r.w
+    drive(form, room, row, p, fresh(ch), n, 1, notes).w
 }
 
 // One rule alone, by its number, at nesting 1 in a first pass.
@@ -398,16 +339,10 @@ pub fn apply_node(
 {
     let mut row = [[0u16; 6]; 256];
     let mut s = fresh(ch);
-    let w = s.w;
-    let b = driver_parts::begin(form, room, w, n);
-    let o = b.last;
-    match o {
-        Outcome::Changed(_) => run_state::with(b, Outcome::Same),
-        Outcome::Stopped(_) => b,
-        Outcome::Same => {
-            s.w = b;
-            let r = optimizer(form, room, &mut row[..], p, s, n, 1, rule, Notes::Nothing);
-            r.w
-        }
+    s.w = driver_parts::begin(form, room, s.w, n);
+    match s.w.last {
+        Outcome::Changed(_) => run_state::with(s.w, Outcome::Same),
+        Outcome::Stopped(_) => s.w,
+        Outcome::Same => optimizer(form, room, &mut row[..], p, s, n, 1, rule, Notes::Nothing).w,
     }
 }

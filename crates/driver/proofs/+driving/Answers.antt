@@ -28,8 +28,8 @@ children_optimizer-proper_list_node-requires t c = search kept.fine_room
 pub children_optimizer-returns-then-not-proper_list_node : goal.children_optimizer-returns-then-not-proper_list_node
 children_optimizer-returns-then-not-proper_list_node t c = (search choosing.children_improper, search keeping.said, search logging.improper_noted)
 
-pub children_optimizer-operands-s-requires : goal.children_optimizer-operands-s-requires
-children_optimizer-operands-s-requires t c = (search kept.fine_down, (search rules, search rules, search rules))
+pub children_optimizer-operands-requires : goal.children_optimizer-operands-requires
+children_optimizer-operands-requires t c = (search kept.fine_down, (search rules, search rules, search rules))
 
 pub children_optimizer-returns : goal.children_optimizer-returns
 children_optimizer-returns t c = (search choosing.children_walked, search rules, search logging.walked_noted)
@@ -40,8 +40,8 @@ drive-returns-then-nest-ge65 t c = (search looping.drive_deep, search keeping.st
 pub drive-lookup-requires : goal.drive-lookup-requires
 drive-lookup-requires t c = (search rules, search rules, search rules, search rules)
 
-pub drive-returns-in-Known : goal.drive-returns-in-Known
-drive-returns-in-Known t c = (search keeping.hit_did, search keeping.hit_still, search logging.hit_noted)
+pub drive-returns-in-Some : goal.drive-returns-in-Some
+drive-returns-in-Some t c = (search keeping.hit_did, search keeping.hit_still, search logging.hit_noted)
 
 pub drive-loop-s-init : goal.drive-loop-s-init
 drive-loop-s-init t c = (search looping.loop_starts, search rules, refl, search sofar_starts)
@@ -64,26 +64,26 @@ drive-loop-s-smaller t c = looping.loop_less _ _ _ _ _ _ _ _ _ _ c.loop-s.invari
 pub drive-loop-s-preserved : goal.drive-loop-s-preserved
 drive-loop-s-preserved t c = (looping.loop_changed _ _ _ _ _ _ _ _ _ _ c.loop-s.invariant.0 _ _ c.turn-s.ensures.0 c.in-Changed.m (search rules), search entries.valid_changed, c.turn-s.auto.row ∙ c.loop-s.invariant.2, logging.loop_changed_noted _ _ _ _ _ _ _ _ _ _ c.loop-s.invariant.0 _ _ _ c.loop-s.invariant.3 _ _ c.turn-s.ensures.0 _ c.turn-s.ensures.2 c.in-Changed.m (search rules))
 
-pub drive-store-s-requires : goal.drive-store-s-requires
-drive-store-s-requires t c = (keeping.turn_valid _ _ _ _ _ _ c.finish-d.ensures (search rules) c.turn-s.ensures.1, keeping.end_ended _ _ _ _ _ _ _ _ _ _ c.loop-s.invariant.0 _ _ c.turn-s.ensures.0 (search rules) _ c.finish-d.ensures)
+pub drive-store-requires : goal.drive-store-requires
+drive-store-requires t c = (keeping.turn_valid _ _ _ _ _ _ c.finish-s.ensures (search rules) c.turn-s.ensures.1, keeping.end_ended _ _ _ _ _ _ _ _ _ _ c.loop-s.invariant.0 _ _ c.turn-s.ensures.0 (search rules) _ c.finish-s.ensures)
 
 pub drive-shape_of-room-in-Same : goal.drive-shape_of-room-in-Same
 drive-shape_of-room-in-Same t c = c.turn-s.auto.room ∙ looping.loop_long _ _ _ _ _ _ _ _ _ _ c.loop-s.invariant.0
 
 pub drive-shape_of-row-in-Same : goal.drive-shape_of-row-in-Same
-drive-shape_of-row-in-Same t c = c.store-s.auto.row ∙ c.turn-s.auto.row ∙ c.loop-s.invariant.2
+drive-shape_of-row-in-Same t c = c.store.auto.row ∙ c.turn-s.auto.row ∙ c.loop-s.invariant.2
 
 pub drive-returns-in-Same : goal.drive-returns-in-Same
-drive-returns-in-Same t c = (keeping.end_stored _ _ _ _ _ _ _ _ _ _ c.loop-s.invariant.0 _ _ c.turn-s.ensures.0 (search rules) _ c.finish-d.ensures _ _ _ c.store-s.ensures.kept, keeping.stored_still _ _ _ _ _ c.store-s.ensures.kept, logging.loop_stored_noted _ _ _ _ _ _ _ _ _ _ c.loop-s.invariant.0 _ _ _ c.loop-s.invariant.3 _ _ c.turn-s.ensures.0 _ c.turn-s.ensures.2 (search rules) _ _ _ _ c.store-s.ensures)
+drive-returns-in-Same t c = (keeping.end_stored _ _ _ _ _ _ _ _ _ _ c.loop-s.invariant.0 _ _ c.turn-s.ensures.0 (search rules) _ c.finish-s.ensures _ _ _ c.store.ensures.kept, keeping.stored_still _ _ _ _ _ c.store.ensures.kept, logging.loop_stored_noted _ _ _ _ _ _ _ _ _ _ c.loop-s.invariant.0 _ _ _ c.loop-s.invariant.3 _ _ c.turn-s.ensures.0 _ c.turn-s.ensures.2 (search rules) _ _ _ _ c.store.ensures)
 
-pub operands-loop-c-init : goal.operands-loop-c-init
-operands-loop-c-init t c = (search chunk.chunk_starts, search rules, refl, search sofar_starts)
+pub operands-elements-init : goal.operands-elements-init
+operands-elements-init t c = (search chunk.chunk_starts, search rules, refl, search sofar_starts)
 
 pub operands-look_node-requires : goal.operands-look_node-requires
 operands-look_node-requires t c = search chunk.chunk_room
 
-pub operands-build-d-requires : goal.operands-build-d-requires
-operands-build-d-requires t c = (search chunk.chunk_ready, search chunk.chunk_items)
+pub operands-build-s-requires : goal.operands-build-s-requires
+operands-build-s-requires t c = (search chunk.chunk_ready, search chunk.chunk_items)
 
 pub operands-shape_of-room-in-Atom : goal.operands-shape_of-room-in-Atom
 operands-shape_of-room-in-Atom t c = search chunk.chunk_len
@@ -94,17 +94,17 @@ operands-returns-in-Atom t c = (search chunk.chunk_end, search keeping.built, se
 pub operands-operands-s-requires : goal.operands-operands-s-requires
 operands-operands-s-requires t c = (search chunk.chunk_down, (search chunk.chunk_fine, search chunk.chunk_nest, search rules))
 
-pub operands-put_before-d-requires : goal.operands-put_before-d-requires
-operands-put_before-d-requires t c = chunk.more_puttable _ _ _ _ _ _ _ _ _ _ _ _ _ _ c.loop-c.invariant.0 _ _ c.operands-s.ensures.0
+pub operands-put_before-s-requires : goal.operands-put_before-s-requires
+operands-put_before-s-requires t c = chunk.more_puttable _ _ _ _ _ _ _ _ _ _ _ _ _ _ c.elements.invariant.0 _ _ c.operands-s.ensures.0
 
 pub operands-shape_of-room-then-k-ge48 : goal.operands-shape_of-room-then-k-ge48
-operands-shape_of-room-then-k-ge48 t c = chunk.chunk_len_2 _ _ _ _ _ _ _ _ _ _ _ _ _ _ c.loop-c.invariant.0 c.operands-s.new.room c.put_before-d.new.room c.put_before-d.auto.room c.operands-s.auto.room
+operands-shape_of-room-then-k-ge48 t c = chunk.chunk_len_2 _ _ _ _ _ _ _ _ _ _ _ _ _ _ c.elements.invariant.0 c.operands-s.new.room c.put_before-s.new.room c.put_before-s.auto.room c.operands-s.auto.room
 
 pub operands-shape_of-row-then-k-ge48 : goal.operands-shape_of-row-then-k-ge48
-operands-shape_of-row-then-k-ge48 t c = c.operands-s.auto.row ∙ c.loop-c.invariant.2
+operands-shape_of-row-then-k-ge48 t c = c.operands-s.auto.row ∙ c.elements.invariant.2
 
 pub operands-returns-then-k-ge48 : goal.operands-returns-then-k-ge48
-operands-returns-then-k-ge48 t c = (chunk.more_put _ _ _ _ _ _ _ _ _ _ _ _ _ _ c.loop-c.invariant.0 _ _ c.operands-s.ensures.0 _ _ c.put_before-d.ensures, search keeping.put_still, logging.more_noted _ _ _ _ _ _ _ _ _ _ _ _ _ _ c.loop-c.invariant.0 _ _ _ c.loop-c.invariant.3 _ c.operands-s.ensures.2)
+operands-returns-then-k-ge48 t c = (chunk.more_put _ _ _ _ _ _ _ _ _ _ _ _ _ _ c.elements.invariant.0 _ _ c.operands-s.ensures.0 _ _ c.put_before-s.ensures, search keeping.put_still, logging.more_noted _ _ _ _ _ _ _ _ _ _ _ _ _ _ c.elements.invariant.0 _ _ _ c.elements.invariant.3 _ c.operands-s.ensures.2)
 
 pub operands-look_node-requires-in-Pair : goal.operands-look_node-requires-in-Pair
 operands-look_node-requires-in-Pair t c = search chunk.elem_room
@@ -113,40 +113,40 @@ pub operands-shape_of-room-then-nest-ge64 : goal.operands-shape_of-room-then-nes
 operands-shape_of-room-then-nest-ge64 t c = search chunk.chunk_long
 
 pub operands-shape_of-row-then-nest-ge64 : goal.operands-shape_of-row-then-nest-ge64
-operands-shape_of-row-then-nest-ge64 t c = c.loop-c.invariant.2
+operands-shape_of-row-then-nest-ge64 t c = c.elements.invariant.2
 
 pub operands-returns-then-nest-ge64 : goal.operands-returns-then-nest-ge64
-operands-returns-then-nest-ge64 t c = (chunk.atom_deep _ _ _ _ _ _ _ _ _ _ _ _ _ _ c.loop-c.invariant.0 _ c.look_node.ensures c.in-Pair.h c.in-Pair.t (search rules) _ c.look_node-in-Pair.ensures (search rules) _ c.if-nest-ge64.true c.with-d.ensures, search keeping.stops, logging.deep_noted _ _ _ _ _ _ _ _ _ _ _ _ _ _ c.loop-c.invariant.0 _ _ _ c.loop-c.invariant.3 _ c.look_node.ensures c.in-Pair.h c.in-Pair.t (search rules) _ c.look_node-in-Pair.ensures (search rules) c.if-nest-ge64.true)
+operands-returns-then-nest-ge64 t c = (chunk.atom_deep _ _ _ _ _ _ _ _ _ _ _ _ _ _ c.elements.invariant.0 _ c.look_node.ensures c.in-Pair.h c.in-Pair.t (search rules) _ c.look_node-in-Pair.ensures (search rules) _ c.if-nest-ge64.true c.with-s.ensures, search keeping.stops, logging.deep_noted _ _ _ _ _ _ _ _ _ _ _ _ _ _ c.elements.invariant.0 _ _ _ c.elements.invariant.3 _ c.look_node.ensures c.in-Pair.h c.in-Pair.t (search rules) _ c.look_node-in-Pair.ensures (search rules) c.if-nest-ge64.true)
 
 pub operands-overflow_cast-got : goal.operands-overflow_cast-got
 operands-overflow_cast-got t c = search chunk.elem_small
 
-pub operands-loop-c-smaller-in-Atom-look_node : goal.operands-loop-c-smaller-in-Atom-look_node
-operands-loop-c-smaller-in-Atom-look_node t c = search chunk.elem_falls
+pub operands-elements-smaller-in-Atom-look_node : goal.operands-elements-smaller-in-Atom-look_node
+operands-elements-smaller-in-Atom-look_node t c = search chunk.elem_falls
 
-pub operands-loop-c-preserved-in-Atom-look_node : goal.operands-loop-c-preserved-in-Atom-look_node
-operands-loop-c-preserved-in-Atom-look_node t c = (chunk.atom_again _ _ _ _ _ _ _ _ _ _ _ _ _ _ c.loop-c.invariant.0 _ c.look_node.ensures c.in-Pair.h c.in-Pair.t (search rules) _ c.look_node-in-Pair.ensures (search rules) (search rules) (search rules), search rules, c.loop-c.invariant.2, logging.atom_noted _ _ _ _ _ _ _ _ _ _ _ _ _ _ c.loop-c.invariant.0 _ _ _ c.loop-c.invariant.3 _ c.look_node.ensures c.in-Pair.h c.in-Pair.t (search rules) _ c.look_node-in-Pair.ensures (search rules) (search rules))
+pub operands-elements-preserved-in-Atom-look_node : goal.operands-elements-preserved-in-Atom-look_node
+operands-elements-preserved-in-Atom-look_node t c = (chunk.atom_again _ _ _ _ _ _ _ _ _ _ _ _ _ _ c.elements.invariant.0 _ c.look_node.ensures c.in-Pair.h c.in-Pair.t (search rules) _ c.look_node-in-Pair.ensures (search rules) (search rules) (search rules), search rules, c.elements.invariant.2, logging.atom_noted _ _ _ _ _ _ _ _ _ _ _ _ _ _ c.elements.invariant.0 _ _ _ c.elements.invariant.3 _ c.look_node.ensures c.in-Pair.h c.in-Pair.t (search rules) _ c.look_node-in-Pair.ensures (search rules) (search rules))
 
 pub operands-drive-s-requires : goal.operands-drive-s-requires
-operands-drive-s-requires t c = (search chunk.chunk_deep, (chunk.elem_fine _ _ _ _ _ _ _ _ _ _ _ _ _ _ c.loop-c.invariant.0 _ c.look_node.ensures c.in-Pair.h c.in-Pair.t (search rules), search chunk.chunk_deeper, search rules))
+operands-drive-s-requires t c = (search chunk.chunk_deep, (chunk.elem_fine _ _ _ _ _ _ _ _ _ _ _ _ _ _ c.elements.invariant.0 _ c.look_node.ensures c.in-Pair.h c.in-Pair.t (search rules), search chunk.chunk_deeper, search rules))
 
 pub operands-worked_into-requires : goal.operands-worked_into-requires
-operands-worked_into-requires t c = chunk.elem_stands _ _ _ _ _ _ _ _ _ _ _ _ _ _ c.loop-c.invariant.0 _ c.look_node.ensures c.in-Pair.h c.in-Pair.t (search rules) _ _ c.drive-s.ensures.0
+operands-worked_into-requires t c = chunk.elem_stands _ _ _ _ _ _ _ _ _ _ _ _ _ _ c.elements.invariant.0 _ c.look_node.ensures c.in-Pair.h c.in-Pair.t (search rules) _ _ c.drive-s.ensures.0
 
-pub operands-shape_of-room-in-Refused : goal.operands-shape_of-room-in-Refused
-operands-shape_of-room-in-Refused t c = c.drive-s.auto.room ∙ chunk.chunk_long _ _ _ _ _ _ _ _ _ _ _ _ _ _ c.loop-c.invariant.0
+pub operands-shape_of-room-in-None : goal.operands-shape_of-room-in-None
+operands-shape_of-room-in-None t c = c.drive-s.auto.room ∙ chunk.chunk_long _ _ _ _ _ _ _ _ _ _ _ _ _ _ c.elements.invariant.0
 
-pub operands-shape_of-row-in-Refused : goal.operands-shape_of-row-in-Refused
-operands-shape_of-row-in-Refused t c = c.drive-s.auto.row ∙ c.loop-c.invariant.2
+pub operands-shape_of-row-in-None : goal.operands-shape_of-row-in-None
+operands-shape_of-row-in-None t c = c.drive-s.auto.row ∙ c.elements.invariant.2
 
-pub operands-returns-in-Refused : goal.operands-returns-in-Refused
-operands-returns-in-Refused t c = (chunk.elem_refused _ _ _ _ _ _ _ _ _ _ _ _ _ _ c.loop-c.invariant.0 _ c.look_node.ensures c.in-Pair.h c.in-Pair.t (search rules) _ _ c.drive-s.ensures.0 _ c.worked_into.ensures (search rules), search rules, logging.refused_noted _ _ _ _ _ _ _ _ _ _ _ _ _ _ c.loop-c.invariant.0 _ _ _ c.loop-c.invariant.3 _ c.look_node.ensures c.in-Pair.h c.in-Pair.t (search rules) _ _ c.drive-s.ensures.0 _ c.drive-s.ensures.2 _ c.worked_into.ensures (search rules))
+pub operands-returns-in-None : goal.operands-returns-in-None
+operands-returns-in-None t c = (chunk.elem_refused _ _ _ _ _ _ _ _ _ _ _ _ _ _ c.elements.invariant.0 _ c.look_node.ensures c.in-Pair.h c.in-Pair.t (search rules) _ _ c.drive-s.ensures.0 _ c.worked_into.ensures (search rules), search rules, logging.refused_noted _ _ _ _ _ _ _ _ _ _ _ _ _ _ c.elements.invariant.0 _ _ _ c.elements.invariant.3 _ c.look_node.ensures c.in-Pair.h c.in-Pair.t (search rules) _ _ c.drive-s.ensures.0 _ c.drive-s.ensures.2 _ c.worked_into.ensures (search rules))
 
-pub operands-loop-c-smaller : goal.operands-loop-c-smaller
-operands-loop-c-smaller t c = chunk.elem_falls _ _ _ _ _ _ _ _ _ _ _ _ _ _ c.loop-c.invariant.0 _ c.look_node.ensures c.in-Pair.h c.in-Pair.t (search rules)
+pub operands-elements-smaller : goal.operands-elements-smaller
+operands-elements-smaller t c = chunk.elem_falls _ _ _ _ _ _ _ _ _ _ _ _ _ _ c.elements.invariant.0 _ c.look_node.ensures c.in-Pair.h c.in-Pair.t (search rules)
 
-pub operands-loop-c-preserved : goal.operands-loop-c-preserved
-operands-loop-c-preserved t c = (chunk.elem_put _ _ _ _ _ _ _ _ _ _ _ _ _ _ c.loop-c.invariant.0 _ c.look_node.ensures c.in-Pair.h c.in-Pair.t (search rules) _ _ c.drive-s.ensures.0 _ c.worked_into.ensures _ _ (search rules) (search rules), keeping.element_valid _ _ _ _ _ _ _ _ c.in-Put.m c.in-Put.b c.worked_into.ensures (search rules) c.drive-s.ensures.1, c.drive-s.auto.row ∙ c.loop-c.invariant.2, logging.put_noted _ _ _ _ _ _ _ _ _ _ _ _ _ _ c.loop-c.invariant.0 _ _ _ c.loop-c.invariant.3 _ c.look_node.ensures c.in-Pair.h c.in-Pair.t (search rules) _ _ c.drive-s.ensures.0 _ c.drive-s.ensures.2 _ c.worked_into.ensures c.in-Put.m c.in-Put.b (search rules))
+pub operands-elements-preserved : goal.operands-elements-preserved
+operands-elements-preserved t c = (chunk.elem_put _ _ _ _ _ _ _ _ _ _ _ _ _ _ c.elements.invariant.0 _ c.look_node.ensures c.in-Pair.h c.in-Pair.t (search rules) _ _ c.drive-s.ensures.0 _ c.worked_into.ensures _ (search rules) (search rules), keeping.element_valid _ _ _ _ _ _ _ _ c.in-Some.element c.worked_into.ensures (search rules) c.drive-s.ensures.1, c.drive-s.auto.row ∙ c.elements.invariant.2, logging.put_noted _ _ _ _ _ _ _ _ _ _ _ _ _ _ c.elements.invariant.0 _ _ _ c.elements.invariant.3 _ c.look_node.ensures c.in-Pair.h c.in-Pair.t (search rules) _ _ c.drive-s.ensures.0 _ c.drive-s.ensures.2 _ c.worked_into.ensures c.in-Some.element (search rules))
 
 pub optimizer-var_change_optimizer_cons_eval-requires : goal.optimizer-var_change_optimizer_cons_eval-requires
 optimizer-var_change_optimizer_cons_eval-requires t c = (omega arith, search rules)
@@ -160,23 +160,23 @@ optimizer-children_optimizer-requires t c = (omega arith, search rules)
 pub optimizer-returns-then-rule-eq5 : goal.optimizer-returns-then-rule-eq5
 optimizer-returns-then-rule-eq5 t c = (search choosing.choice_5, search rules, search logging.choice_noted)
 
-pub optimizer-simple-d-requires : goal.optimizer-simple-d-requires
-optimizer-simple-d-requires t c = (search rules, search rules, search choosing.other_rule)
+pub optimizer-simple-s-requires : goal.optimizer-simple-s-requires
+optimizer-simple-s-requires t c = (search rules, search rules, search choosing.other_rule)
 
 pub optimizer-returns : goal.optimizer-returns
-optimizer-returns t c = (let d = choosing.choice_other _ _ _ _ _ _ c.requires.0 _ _ _ c.simple-d.ensures c.requires.2 c.requires.3 (search rules) (search rules) in (d, keeping.rule_still _ _ _ _ _ _ _ _ _ _ d c.requires.0 c.requires.4, search logging.simple_noted))
+optimizer-returns t c = (let d = choosing.choice_other _ _ _ _ _ _ c.requires.0 _ _ _ c.simple-s.ensures c.requires.2 c.requires.3 (search rules) (search rules) in (d, keeping.rule_still _ _ _ _ _ _ _ _ _ _ d c.requires.0 c.requires.4, search logging.simple_noted))
 
 pub settle-drive-s-requires : goal.settle-drive-s-requires
 settle-drive-s-requires t c = (omega arith, (search settling.settle_fine, omega arith, search keeping.valid_answered))
 
-pub settle-keep_body-e-requires : goal.settle-keep_body-e-requires
-settle-keep_body-e-requires t c = settling.constant_keepable _ _ _ _ _ _ c.requires.0 c.requires.1 _ _ c.seems_constant.ensures _ c.if-seems_constant.true _ _ c.drive-s.ensures.0
+pub settle-keep_body-s-requires : goal.settle-keep_body-s-requires
+settle-keep_body-s-requires t c = settling.constant_keepable _ _ _ _ _ _ c.requires.0 c.requires.1 _ _ c.seems_constant.ensures _ c.if-seems_constant.true _ _ c.drive-s.ensures.0
 
 pub settle-shape_of-room-then-seems_constant : goal.settle-shape_of-room-then-seems_constant
-settle-shape_of-room-then-seems_constant t c = c.keep_body-e.auto.room ∙ c.drive-s.auto.room ∙ c.seems_constant.auto.room
+settle-shape_of-room-then-seems_constant t c = c.keep_body-s.auto.room ∙ c.drive-s.auto.room ∙ c.seems_constant.auto.room
 
 pub settle-returns-then-seems_constant : goal.settle-returns-then-seems_constant
-settle-returns-then-seems_constant t c = (settling.constant_kept _ _ _ _ _ _ c.requires.0 c.requires.1 _ _ c.seems_constant.ensures _ c.if-seems_constant.true _ _ c.drive-s.ensures.0 _ _ _ c.keep_body-e.ensures, keeping.body_still _ _ _ _ _ _ _ _ c.drive-s.ensures.1 _ c.keep_body-e.ensures, logging.constant_noted _ _ _ _ _ _ c.requires.1 _ _ c.seems_constant.ensures _ _ _ _ c.if-seems_constant.true _ c.drive-s.ensures.2)
+settle-returns-then-seems_constant t c = (settling.constant_kept _ _ _ _ _ _ c.requires.0 c.requires.1 _ _ c.seems_constant.ensures _ c.if-seems_constant.true _ _ c.drive-s.ensures.0 _ _ _ c.keep_body-s.ensures, keeping.body_still _ _ _ _ _ _ _ _ c.drive-s.ensures.1 _ c.keep_body-s.ensures, logging.constant_noted _ _ _ _ _ _ c.requires.1 _ _ c.seems_constant.ensures _ _ _ _ c.if-seems_constant.true _ c.drive-s.ensures.2)
 
 pub settle-proper_list_node-requires : goal.settle-proper_list_node-requires
 settle-proper_list_node-requires t c = search settling.settle_room
@@ -187,14 +187,14 @@ settle-returns-then-not-proper_list_node t c = (search settling.improper, search
 pub settle-operands-s-requires : goal.settle-operands-s-requires
 settle-operands-s-requires t c = (settling.settle_down _ _ _ _ _ _ c.requires.0 c.requires.1 _ _ c.seems_constant.ensures _ _ (search rules), (settling.settle_fine _ _ _ _ _ _ c.requires.0 c.requires.1 _ _ c.seems_constant.ensures, search rules, keeping.valid_answered _ _ _ _ _ _ _ _ _ c.seems_constant.ensures c.requires.3))
 
-pub settle-keep_list-e-requires : goal.settle-keep_list-e-requires
-settle-keep_list-e-requires t c = settling.list_keepable _ _ _ _ _ _ c.requires.0 c.requires.1 _ _ c.seems_constant.ensures _ c.if-seems_constant.false _ c.proper_list_node.ensures (ap not c.if-not-proper_list_node.false) _ _ c.operands-s.ensures.0
+pub settle-keep_list-s-requires : goal.settle-keep_list-s-requires
+settle-keep_list-s-requires t c = settling.list_keepable _ _ _ _ _ _ c.requires.0 c.requires.1 _ _ c.seems_constant.ensures _ c.if-seems_constant.false _ c.proper_list_node.ensures (ap not c.if-not-proper_list_node.false) _ _ c.operands-s.ensures.0
 
 pub settle-shape_of-room : goal.settle-shape_of-room
-settle-shape_of-room t c = c.keep_list-e.auto.room ∙ c.operands-s.auto.room ∙ c.seems_constant.auto.room
+settle-shape_of-room t c = c.keep_list-s.auto.room ∙ c.operands-s.auto.room ∙ c.seems_constant.auto.room
 
 pub settle-returns : goal.settle-returns
-settle-returns t c = (settling.list_settled _ _ _ _ _ _ c.requires.0 c.requires.1 _ _ c.seems_constant.ensures _ c.if-seems_constant.false _ c.proper_list_node.ensures (ap not c.if-not-proper_list_node.false) _ _ c.operands-s.ensures.0 _ _ _ c.keep_list-e.ensures, keeping.list_still _ _ _ _ _ _ _ _ c.operands-s.ensures.1 c.keep_list-e.ensures, logging.listed_noted _ _ _ _ _ _ c.requires.1 _ _ c.seems_constant.ensures _ _ _ _ c.if-seems_constant.false _ c.proper_list_node.ensures (ap not c.if-not-proper_list_node.false) _ c.operands-s.ensures.2)
+settle-returns t c = (settling.list_settled _ _ _ _ _ _ c.requires.0 c.requires.1 _ _ c.seems_constant.ensures _ c.if-seems_constant.false _ c.proper_list_node.ensures (ap not c.if-not-proper_list_node.false) _ _ c.operands-s.ensures.0 _ _ _ c.keep_list-s.ensures, keeping.list_still _ _ _ _ _ _ _ _ c.operands-s.ensures.1 c.keep_list-s.ensures, logging.listed_noted _ _ _ _ _ _ c.requires.1 _ _ c.seems_constant.ensures _ _ _ _ c.if-seems_constant.false _ c.proper_list_node.ensures (ap not c.if-not-proper_list_node.false) _ c.operands-s.ensures.2)
 
 pub turn-returns-in-Changed : goal.turn-returns-in-Changed
 turn-returns-in-Changed t c = (search turning.at_atom, search keeping.atom_still, search logging.leaf_noted)
@@ -214,23 +214,11 @@ turn-loop-rule-preserved t c = (turning.rule_next _ _ _ _ _ _ _ _ _ c.loop-rule.
 pub turn-note-requires : goal.turn-note-requires
 turn-note-requires t c = logging.note_asks _ _ _ _ _ _ _ _ _ c.loop-rule.invariant.0 _ _ _ c.loop-rule.invariant.1 _ c.optimizer-s.auto.row c.loop-rule-test.true
 
-pub turn-shape_of-room-in-Changed-o : goal.turn-shape_of-room-in-Changed-o
-turn-shape_of-room-in-Changed-o t c = c.optimizer-s.auto.room ∙ turning.turn_long _ _ _ _ _ _ _ _ _ c.loop-rule.invariant.0
+pub turn-returns-in-Changed-last : goal.turn-returns-in-Changed-last
+turn-returns-in-Changed-last t c = (turning.turn_whole _ _ _ _ _ _ c.requires.0 _ c.begin-s.ensures (search rules) _ _ (turning.rule_changed _ _ _ _ _ _ _ _ _ c.loop-rule.invariant.0 _ _ c.optimizer-s.ensures.0 c.loop-rule-test.true _ c.in-Changed-last.is), search logging.still_noted, logging.whole_noted _ _ _ _ _ _ c.begin-s.ensures _ (search rules) _ _ (logging.changed_noted _ _ _ _ _ _ _ _ _ c.loop-rule.invariant.0 _ _ _ c.loop-rule.invariant.3 _ _ c.optimizer-s.ensures.0 c.loop-rule-test.true _ c.optimizer-s.ensures.2 _ c.in-Changed-last.is _ c.note.ensures))
 
-pub turn-shape_of-row-in-Changed-o : goal.turn-shape_of-row-in-Changed-o
-turn-shape_of-row-in-Changed-o t c = c.note.auto.row ∙ c.optimizer-s.auto.row ∙ c.loop-rule.invariant.2
-
-pub turn-returns-in-Changed-o : goal.turn-returns-in-Changed-o
-turn-returns-in-Changed-o t c = (turning.turn_whole _ _ _ _ _ _ c.requires.0 _ c.begin-b.ensures (search rules) _ _ (turning.rule_changed _ _ _ _ _ _ _ _ _ c.loop-rule.invariant.0 _ _ c.optimizer-s.ensures.0 c.loop-rule-test.true _ c.in-Changed-o.is), search logging.still_noted, logging.whole_noted _ _ _ _ _ _ c.begin-b.ensures _ (search rules) _ _ (logging.changed_noted _ _ _ _ _ _ _ _ _ c.loop-rule.invariant.0 _ _ _ c.loop-rule.invariant.3 _ _ c.optimizer-s.ensures.0 c.loop-rule-test.true _ c.optimizer-s.ensures.2 _ c.in-Changed-o.is _ c.note.ensures))
-
-pub turn-shape_of-room-in-Stopped-o : goal.turn-shape_of-room-in-Stopped-o
-turn-shape_of-room-in-Stopped-o t c = c.optimizer-s.auto.room ∙ turning.turn_long _ _ _ _ _ _ _ _ _ c.loop-rule.invariant.0
-
-pub turn-shape_of-row-in-Stopped-o : goal.turn-shape_of-row-in-Stopped-o
-turn-shape_of-row-in-Stopped-o t c = c.optimizer-s.auto.row ∙ c.loop-rule.invariant.2
-
-pub turn-returns-in-Stopped-o : goal.turn-returns-in-Stopped-o
-turn-returns-in-Stopped-o t c = (turning.turn_whole _ _ _ _ _ _ c.requires.0 _ c.begin-b.ensures (search rules) _ _ (turning.rule_stopped _ _ _ _ _ _ _ _ _ c.loop-rule.invariant.0 _ _ c.optimizer-s.ensures.0 c.loop-rule-test.true _ c.in-Stopped-o.is), search rules, logging.whole_noted _ _ _ _ _ _ c.begin-b.ensures _ (search rules) _ _ (logging.stop_noted _ _ _ _ _ _ _ _ _ c.loop-rule.invariant.0 _ _ _ c.loop-rule.invariant.3 _ _ c.optimizer-s.ensures.0 c.loop-rule-test.true _ c.optimizer-s.ensures.2 _ c.in-Stopped-o.is))
+pub turn-returns-in-Stopped-last : goal.turn-returns-in-Stopped-last
+turn-returns-in-Stopped-last t c = (turning.turn_whole _ _ _ _ _ _ c.requires.0 _ c.begin-s.ensures (search rules) _ _ (turning.rule_stopped _ _ _ _ _ _ _ _ _ c.loop-rule.invariant.0 _ _ c.optimizer-s.ensures.0 c.loop-rule-test.true _ c.in-Stopped-last.is), search rules, logging.whole_noted _ _ _ _ _ _ c.begin-s.ensures _ (search rules) _ _ (logging.stop_noted _ _ _ _ _ _ _ _ _ c.loop-rule.invariant.0 _ _ _ c.loop-rule.invariant.3 _ _ c.optimizer-s.ensures.0 c.loop-rule-test.true _ c.optimizer-s.ensures.2 _ c.in-Stopped-last.is))
 
 pub turn-shape_of-room : goal.turn-shape_of-room
 turn-shape_of-room t c = turning.turn_long _ _ _ _ _ _ _ _ _ c.loop-rule.invariant.0
@@ -239,22 +227,22 @@ pub turn-shape_of-row : goal.turn-shape_of-row
 turn-shape_of-row t c = c.loop-rule.invariant.2
 
 pub turn-returns : goal.turn-returns
-turn-returns t c = (turning.turn_whole _ _ _ _ _ _ c.requires.0 _ c.begin-b.ensures (search rules) _ _ (turning.turn_ends _ _ _ _ _ _ _ _ _ c.loop-rule.invariant.0 c.loop-rule-test.false), search entries.valid_still, logging.whole_noted _ _ _ _ _ _ c.begin-b.ensures _ (search rules) _ _ (logging.last_noted _ _ _ _ _ _ _ _ _ c.loop-rule.invariant.0 _ _ _ c.loop-rule.invariant.3 c.loop-rule-test.false))
+turn-returns t c = (turning.turn_whole _ _ _ _ _ _ c.requires.0 _ c.begin-s.ensures (search rules) _ _ (turning.turn_ends _ _ _ _ _ _ _ _ _ c.loop-rule.invariant.0 c.loop-rule-test.false), search entries.valid_still, logging.whole_noted _ _ _ _ _ _ c.begin-s.ensures _ (search rules) _ _ (logging.last_noted _ _ _ _ _ _ _ _ _ c.loop-rule.invariant.0 _ _ _ c.loop-rule.invariant.3 c.loop-rule-test.false))
 
-pub var_change_optimizer_cons_eval-returns-in-Other : goal.var_change_optimizer_cons_eval-returns-in-Other
-var_change_optimizer_cons_eval-returns-in-Other t c = (changing.change_none _ _ _ _ _ c.requires.0 _ _ c.applied_of.ensures _ _ c.with-d.ensures (search rules), search keeping.said_grown, changing.change_none_noted _ _ _ _ _ c.requires.0 _ _ c.applied_of.ensures _ _ _ (search rules))
+pub var_change_optimizer_cons_eval-returns-in-None : goal.var_change_optimizer_cons_eval-returns-in-None
+var_change_optimizer_cons_eval-returns-in-None t c = (changing.change_none _ _ _ _ _ c.requires.0 _ _ c.applied_of.ensures _ _ c.with-s.ensures (search rules), search keeping.said_grown, changing.change_none_noted _ _ _ _ _ c.requires.0 _ _ c.applied_of.ensures _ _ _ (search rules))
 
 pub var_change_optimizer_cons_eval-sub_args-requires : goal.var_change_optimizer_cons_eval-sub_args-requires
-var_change_optimizer_cons_eval-sub_args-requires t c = changing.change_asks _ _ _ _ _ c.requires.0 _ _ c.applied_of.ensures _ _ (search rules)
+var_change_optimizer_cons_eval-sub_args-requires t c = changing.change_asks _ _ _ _ _ c.requires.0 _ _ c.applied_of.ensures _ (search rules)
 
-pub var_change_optimizer_cons_eval-returns-in-Refused : goal.var_change_optimizer_cons_eval-returns-in-Refused
-var_change_optimizer_cons_eval-returns-in-Refused t c = (changing.change_over _ _ _ _ _ c.requires.0 _ _ c.applied_of.ensures _ _ (search rules) _ _ c.sub_args.ensures _ _ _ c.with-d-in-Refused.ensures (search rules), search keeping.stops, changing.change_over_noted _ _ _ _ _ c.requires.0 _ _ c.applied_of.ensures _ _ (search rules) _ _ c.sub_args.ensures _ c.in-Refused.e _ _ (search rules))
+pub var_change_optimizer_cons_eval-returns-in-Err : goal.var_change_optimizer_cons_eval-returns-in-Err
+var_change_optimizer_cons_eval-returns-in-Err t c = (changing.change_over _ _ _ _ _ c.requires.0 _ _ c.applied_of.ensures _ (search rules) _ _ c.sub_args.ensures _ _ _ c.with-s-in-Err.ensures (search rules), search keeping.stops, changing.change_over_noted _ _ _ _ _ c.requires.0 _ _ c.applied_of.ensures _ (search rules) _ _ c.sub_args.ensures _ c.in-Err.e _ _ (search rules))
 
-pub var_change_optimizer_cons_eval-settle-s-requires : goal.var_change_optimizer_cons_eval-settle-s-requires
-var_change_optimizer_cons_eval-settle-s-requires t c = (omega arith, let y = changing.change_valid _ _ _ _ _ c.requires.0 _ _ c.applied_of.ensures _ _ (search rules) _ _ c.sub_args.ensures c.in-Done.x (search rules) _ _ c.requires.2 in let z = changing.change_fine _ _ _ _ _ c.requires.0 _ _ c.applied_of.ensures _ _ (search rules) _ _ c.sub_args.ensures c.in-Done.x (search rules) in (z.0, z.1, c.requires.1, y))
+pub var_change_optimizer_cons_eval-settle-requires : goal.var_change_optimizer_cons_eval-settle-requires
+var_change_optimizer_cons_eval-settle-requires t c = (omega arith, let y = changing.change_valid _ _ _ _ _ c.requires.0 _ _ c.applied_of.ensures _ (search rules) _ _ c.sub_args.ensures c.in-Ok.x (search rules) _ _ c.requires.2 in let z = changing.change_fine _ _ _ _ _ c.requires.0 _ _ c.applied_of.ensures _ (search rules) _ _ c.sub_args.ensures c.in-Ok.x (search rules) in (z.0, z.1, c.requires.1, y))
 
-pub var_change_optimizer_cons_eval-shape_of-room-in-Done : goal.var_change_optimizer_cons_eval-shape_of-room-in-Done
-var_change_optimizer_cons_eval-shape_of-room-in-Done t c = c.settle-s.auto.room ∙ c.sub_args.auto.room ∙ c.applied_of.auto.room
+pub var_change_optimizer_cons_eval-shape_of-room-in-Ok : goal.var_change_optimizer_cons_eval-shape_of-room-in-Ok
+var_change_optimizer_cons_eval-shape_of-room-in-Ok t c = c.settle.auto.room ∙ c.sub_args.auto.room ∙ c.applied_of.auto.room
 
-pub var_change_optimizer_cons_eval-returns-in-Done : goal.var_change_optimizer_cons_eval-returns-in-Done
-var_change_optimizer_cons_eval-returns-in-Done t c = (changing.change_settled _ _ _ _ _ c.requires.0 _ _ c.applied_of.ensures c.in-Call.b c.in-Call.a c.in-Call.is _ _ c.sub_args.ensures c.in-Done.x (search rules) _ _ _ c.settle-s.ensures.0, search rules, changing.change_settled_noted _ _ _ _ _ c.requires.0 _ _ c.applied_of.ensures c.in-Call.b c.in-Call.a c.in-Call.is _ _ c.sub_args.ensures c.in-Done.x (search rules) _ _ _ _ c.settle-s.ensures.2)
+pub var_change_optimizer_cons_eval-returns-in-Ok : goal.var_change_optimizer_cons_eval-returns-in-Ok
+var_change_optimizer_cons_eval-returns-in-Ok t c = (changing.change_settled _ _ _ _ _ c.requires.0 _ _ c.applied_of.ensures c.in-Some.call c.in-Some.is _ _ c.sub_args.ensures c.in-Ok.x (search rules) _ _ _ c.settle.ensures.0, search rules, changing.change_settled_noted _ _ _ _ _ c.requires.0 _ _ c.applied_of.ensures c.in-Some.call c.in-Some.is _ _ c.sub_args.ensures c.in-Ok.x (search rules) _ _ _ _ c.settle.ensures.2)

@@ -41,11 +41,11 @@ invariant-drive-loop-s l = looping.Looping l.form l.p l.nest l.initial.room l.in
 abbrev pub decreases-drive-loop-s : goal.decreases-drive-loop-s
 decreases-drive-loop-s l = pass_limit - l.s.w.passes
 
-abbrev pub invariant-operands-loop-c : goal.invariant-operands-loop-c
-invariant-operands-loop-c l = chunk.Chunk l.form l.p l.nest l.list l.count l.flag l.initial.room l.initial.s.w l.room l.s.w l.q l.seen l.got l.k × Valid l.form l.room l.row l.s × (length l.row ≡ length l.initial.row) × Sofar l.notes l.initial.row l.row (ends_over (height_at (l.nest + 1)) (tree_at l.form l.initial.room l.list) (spent_of l.initial.s.w)) (ends_over (height_at (l.nest + 1)) (tree_at l.form l.room l.q) (spent_of l.s.w))
+abbrev pub invariant-operands-elements : goal.invariant-operands-elements
+invariant-operands-elements l = chunk.Chunk l.form l.p l.nest l.list l.count l.flag l.initial.room l.initial.s.w l.room l.s.w l.q l.seen l.got l.k × Valid l.form l.room l.row l.s × (length l.row ≡ length l.initial.row) × Sofar l.notes l.initial.row l.row (ends_over (height_at (l.nest + 1)) (tree_at l.form l.initial.room l.list) (spent_of l.initial.s.w)) (ends_over (height_at (l.nest + 1)) (tree_at l.form l.room l.q) (spent_of l.s.w))
 
-abbrev pub decreases-operands-loop-c : goal.decreases-operands-loop-c
-decreases-operands-loop-c l = l.q
+abbrev pub decreases-operands-elements : goal.decreases-operands-elements
+decreases-operands-elements l = l.q
 
 abbrev pub invariant-turn-loop-rule : goal.invariant-turn-loop-rule
 invariant-turn-loop-rule l = turning.Turning l.form l.p l.nest l.initial.room l.initial.s.w l.n l.room l.s.w l.rule × Valid l.form l.room l.row l.s × (length l.row ≡ length l.initial.row) × Sofar l.notes l.initial.row l.row (pass_ends (height_at (l.nest + 1)) 1 (tree_at l.form l.initial.room l.n) (spent_of l.initial.s.w)) (pass_ends (height_at (l.nest + 1)) l.rule (tree_at l.form l.initial.room l.n) (spent_of l.s.w))

@@ -4,11 +4,11 @@ use Rattle.driver.proofs.Applying as applying
 use Rattle.driver.proofs.Starting as starting
 use Rattle.driver.proofs.apply_node.Goals as goal
 
-pub begin-b-requires : goal.begin-b-requires
-begin-b-requires c = search applying.applied_ready
+pub begin-s-requires : goal.begin-s-requires
+begin-s-requires c = search applying.applied_ready
 
-pub optimizer-r-requires : goal.optimizer-r-requires
-optimizer-r-requires c = (search applying.applied_fine, search rules, search rules, search rules, search starting.start_known)
+pub optimizer-requires : goal.optimizer-requires
+optimizer-requires c = (search applying.applied_fine, search rules, search rules, search rules, search starting.start_known)
 
 pub returns-in-Changed : goal.returns-in-Changed
 returns-in-Changed c = search applying.applied_atom

@@ -3,8 +3,8 @@ use borrow.Author.Rules.{rules}
 use Rattle.driver.proofs.Starting as starting
 use Rattle.driver.proofs.optimize_node.Goals as goal
 
-pub drive-r-requires : goal.drive-r-requires
-drive-r-requires c = (search starting.start_fine, search rules, search starting.start_valid)
+pub drive-requires : goal.drive-requires
+drive-requires c = (search starting.start_fine, search rules, search starting.start_valid)
 
 pub returns : goal.returns
 returns c = (search starting.started, search starting.started_noted)
