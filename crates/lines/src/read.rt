@@ -167,7 +167,7 @@ pub fn start() -> Lines
 }
 
 // How many turns of a program's loop are left: none where the input had no line. A proved loop ends, and nothing says that the input
-// does: so turns are counted down, and reads up, over more than any run uses up.
+// does: so turns and reads are counted, and no run uses them up.
 pub fn left(s: Lines, turns: u64) -> u64
     ensures { result ≤ turns - 1 }
 {
