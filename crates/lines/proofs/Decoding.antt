@@ -3,12 +3,14 @@ use mathlib.Core.Path.{◌≡◌, refl, sym, ◌∙◌, ap}
 use mathlib.Core.Bool.{Bool, true, false}
 use mathlib.Core.Option.{Option, some, none}
 use mathlib.Core.List.{List, [], ◌∷◌, ◌++◌, append-nil, append_assoc}
-use Prim.Native.Nat.{ℕ, ◌+◌, ◌*◌, ◌/◌, ◌%◌, ◌≤◌, ◌<◌, min}
+use Prim.Native.Nat.{ℕ, ◌+◌, ◌-◌, ◌*◌, ◌/◌, ◌%◌, ◌≤◌, ◌<◌, min}
 use native.Mathlib.Omega.{arith}
 use lib.Dec.{ltb, eqb}
 use lib.ListN.{length, take, length-take, length-append}
 use lib.Seq.{take_all, take-append-le}
-use borrow.Author.Tests.{ltb-true, ltb-false, lt-ltb}
+use borrow.Author.Tests.{ltb-true, ltb-false}
+use Rattle.std.specs.Prelude as rust
+use Rattle.std.specs.Prelude.{Some, None}
 use Rattle.io.specs.Digits.{hex_digit_ascii}
 use Rattle.lines.specs.declared.read.Got.TheVariants.{Form, Bad}
 use Rattle.lines.specs.declared.read.Spelling.{Spelling}
@@ -34,7 +36,7 @@ through how most s (x ∷ xs) = through how most (more how most s x) xs
 
 -- nothing of a line yet
 abbrev pub begun : Seen
-begun = record { bytes = []; half = 16; bad = false }
+begun = record { bytes = []; half = None; bad = false }
 
 -- what a line that has ended stands for, and the bytes kept of it
 abbrev pub Stands : ℕ → Option (List ℕ) → Seen → Type 0
@@ -49,27 +51,37 @@ parts how most s at (x ∷ xs) ys p =
     let e : at + 1 + length xs ≡ at + length (x ∷ xs) = omega arith in
     rw (p.0, walk) (parts how most (more how most s x) (at + 1) xs ys p.1 ∙ ap (λ (k : ℕ). walk how most (through how most (more how most s x) xs) k ys) e)
 
+on_option : {X : Type 0} (o : rust.Option ℕ) → ((d : ℕ) → o ≡ Some d → X) → (o ≡ None → X) → X
+on_option (Some d) f g = f d refl
+on_option None f g = g refl
+
 module _ (most : ℕ) (s : Seen) (x : ℕ) where
-  other : ltb (digit_of x) 16 ≡ false → more Hex most s x ≡ record { bytes = s.bytes; half = s.half; bad = true }
+  other : digit_of x ≡ None → more Hex most s x ≡ record { bytes = s.bytes; half = s.half; bad = true }
   unfolding more
   other e = rw (e, more)
 
-  first : ltb (digit_of x) 16 ≡ true → ltb s.half 16 ≡ false → more Hex most s x ≡ record { bytes = s.bytes; half = digit_of x; bad = s.bad }
-  unfolding more
-  first e h = rw (e, h, more)
+  module _ {d : ℕ} (e : digit_of x ≡ Some d) where
+    first : s.half ≡ None → more Hex most s x ≡ record { bytes = s.bytes; half = Some d; bad = s.bad }
+    unfolding more
+    first h = rw (e, h, more)
 
-  second : ltb (digit_of x) 16 ≡ true → ltb s.half 16 ≡ true → more Hex most s x ≡ record { bytes = keep most s.bytes (s.half * 16 + digit_of x); half = 16; bad = s.bad }
-  unfolding more
-  second e h = rw (e, h, more)
+    second : {h : ℕ} → s.half ≡ Some h → more Hex most s x ≡ record { bytes = keep most s.bytes (h * 16 + d); half = None; bad = s.bad }
+    unfolding more
+    second h = rw (e, h, more)
 
   more_bad : s.bad ≡ true → (more Hex most s x).bad ≡ true
-  more_bad b = on_bool (ltb (digit_of x) 16)
-      (λ e. on_bool (ltb s.half 16) (λ h. ap (λ (z : Seen). z.bad) (second e h) ∙ b) (λ h. ap (λ (z : Seen). z.bad) (first e h) ∙ b))
+  more_bad b = on_option (digit_of x)
+      (λ d e. on_option s.half (λ h k. ap (λ (z : Seen). z.bad) (second e k) ∙ b) (λ k. ap (λ (z : Seen). z.bad) (first e k) ∙ b))
       (λ e. ap (λ (z : Seen). z.bad) (other e))
 
+bad_line : (h : rust.Option ℕ) → judged h true ≡ Bad
+unfolding judged
+bad_line None = refl
+bad_line (Some d) = refl
+
 bad_stays : (most : ℕ) (s : Seen) (xs : List ℕ) → s.bad ≡ true → judged (through Hex most s xs).half (through Hex most s xs).bad ≡ Bad
-unfolding through judged
-bad_stays most s [] b = rw (b, judged)
+unfolding through
+bad_stays most s [] b = rw b (bad_line s.half)
 bad_stays most s (x ∷ xs) b = bad_stays most (more Hex most s x) xs (more_bad most s x b)
 
 -- the bytes kept are the first of all
@@ -94,36 +106,28 @@ unfolding after before
 after_before acc x none = refl
 after_before acc x (some bs) = ap some (sym (append_assoc acc (x ∷ []) bs))
 
-module _ (x y : ℕ) (others : Option (List ℕ)) where
-  both_digits : ltb x 16 ≡ true → ltb y 16 ≡ true → two_before x y others ≡ before (x * 16 + y) others
-  unfolding two_before
-  both_digits p q = rw (p, q, two_before)
+second_other : (o : rust.Option ℕ) (others : Option (List ℕ)) → two_before o None others ≡ none
+unfolding two_before
+second_other None others = refl
+second_other (Some x) others = refl
 
-  first_other : ltb x 16 ≡ false → two_before x y others ≡ none
-  unfolding two_before
-  first_other p = rw (p, two_before)
-
-  second_other : ltb x 16 ≡ true → ltb y 16 ≡ false → two_before x y others ≡ none
-  unfolding two_before
-  second_other p q = rw (p, q, two_before)
-
-goes : (most : ℕ) (acc line : List ℕ) → Stands most (after acc (decode line)) (through Hex most (record { bytes = take most acc; half = 16; bad = false }) line)
-unfolding decode after through judged
+goes : (most : ℕ) (acc line : List ℕ) → Stands most (after acc (decode line)) (through Hex most (record { bytes = take most acc; half = None; bad = false }) line)
+unfolding decode after through judged two_before
 goes most acc [] = (refl, ap (take most) (sym (append-nil acc)))
 goes most acc (a ∷ []) =
-    let s : Seen = record { bytes = take most acc; half = 16; bad = false } in
-    on_bool (ltb (digit_of a) 16)
-    (λ e. rw (first most s a e refl) (rw (e, judged)))
+    let s : Seen = record { bytes = take most acc; half = None; bad = false } in
+    on_option (digit_of a)
+    (λ d e. rw (first most s a e refl) refl)
     (λ e. rw (other most s a e) refl)
 goes most acc (a ∷ b ∷ line) =
-    let s : Seen = record { bytes = take most acc; half = 16; bad = false } in
-    let t : Seen = record { bytes = take most acc; half = digit_of a; bad = false } in
-    on_bool (ltb (digit_of a) 16)
-    (λ p. on_bool (ltb (digit_of b) 16)
-    (λ q. rw (both_digits (digit_of a) (digit_of b) (decode line) p q, after_before acc (digit_of a * 16 + digit_of b) (decode line), first most s a p refl, second most t b q p, keep_first most acc (digit_of a * 16 + digit_of b))
-    (goes most (acc ++ ((digit_of a * 16 + digit_of b) ∷ [])) line))
-    (λ q. rw (second_other (digit_of a) (digit_of b) (decode line) p q) (bad_stays most (more Hex most (more Hex most s a) b) line (rw (other most (more Hex most s a) b q) refl))))
-    (λ p. rw (first_other (digit_of a) (digit_of b) (decode line) p) (bad_stays most (more Hex most (more Hex most s a) b) line (more_bad most (more Hex most s a) b (rw (other most s a p) refl))))
+    let s : Seen = record { bytes = take most acc; half = None; bad = false } in
+    on_option (digit_of a)
+    (λ d p.
+    let t : Seen = record { bytes = take most acc; half = Some d; bad = false } in
+    on_option (digit_of b)
+    (λ e q. rw (p, q, after_before acc (d * 16 + e) (decode line), first most s a p refl, second most t b q refl, keep_first most acc (d * 16 + e)) (goes most (acc ++ ((d * 16 + e) ∷ [])) line))
+    (λ q. rw (q, second_other (digit_of a) (decode line)) (bad_stays most (more Hex most (more Hex most s a) b) line (rw (other most (more Hex most s a) b q) refl))))
+    (λ p. rw p (bad_stays most (more Hex most (more Hex most s a) b) line (more_bad most (more Hex most s a) b (rw (other most s a p) refl))))
 
 after_none : (o : Option (List ℕ)) → after [] o ≡ o
 unfolding after
@@ -151,9 +155,9 @@ whole most at line rest p =
 -- ---- a line as it stands
 
 -- nothing is bad of it, and no digit waits
-raw_goes : (most : ℕ) (acc line : List ℕ) → through Raw most (record { bytes = take most acc; half = 16; bad = false }) line ≡ record { bytes = take most (acc ++ line); half = 16; bad = false }
+raw_goes : (most : ℕ) (acc line : List ℕ) → through Raw most (record { bytes = take most acc; half = None; bad = false }) line ≡ record { bytes = take most (acc ++ line); half = None; bad = false }
 unfolding through more
-raw_goes most acc [] = ap (λ (l : List ℕ). record { bytes = take most l; half = 16; bad = false }) (sym (append-nil acc))
+raw_goes most acc [] = ap (λ (l : List ℕ). record { bytes = take most l; half = None; bad = false }) (sym (append-nil acc))
 raw_goes most acc (x ∷ line) = rw (keep_first most acc x, ← append_assoc acc (x ∷ []) line) (raw_goes most (acc ++ (x ∷ [])) line)
 
 -- a whole line and its newline: where reading stands, and its bytes, the first of them where there are more than `most`
@@ -166,26 +170,32 @@ pub record WholeRaw (most at : ℕ) (line : List ℕ) (w : Walked) : Type 0 wher
 pub whole_raw : (most at : ℕ) (line rest : List ℕ) → Plain line → WholeRaw most at line (walk Raw most begun at (line ++ (10 ∷ rest)))
 unfolding walk judged
 whole_raw most at line rest p =
-    let stood : through Raw most begun line ≡ record { bytes = take most line; half = 16; bad = false } = rw (take_none most) at (raw_goes most [] line) in
+    let stood : through Raw most begun line ≡ record { bytes = take most line; half = None; bad = false } = rw (take_none most) at (raw_goes most [] line) in
     rw (parts Raw most begun at line (10 ∷ rest) p, stood) (record { ended = refl; place = refl; form = refl; bytes = refl })
 
 -- ---- what is printed in hex reads back
 
-digit_glyph : (d : ℕ) → d < 16 → digit_of (hex_digit_ascii d) ≡ d
+digit_glyph : (d : ℕ) → d < 16 → digit_of (hex_digit_ascii d) ≡ Some d
 digit_glyph d h =
     on_bool (ltb d 10)
-    (λ e. let k : d < 10 = ltb-true d 10 e in rw e (sym (reading.number (48 + d) (omega arith) (omega arith)) ∙ omega arith))
-    (λ e. let k : 10 ≤ d = ltb-false d 10 e in rw e (sym (reading.letter (87 + d) (omega arith) (omega arith)) ∙ omega arith))
+    (λ e.
+    let k : d < 10 = ltb-true d 10 e in
+    let z : 48 + d - 48 ≡ d = omega arith in
+    rw e (sym (reading.number (48 + d) (omega arith) (omega arith)) ∙ ap (λ x. Some x) z))
+    (λ e.
+    let k : 10 ≤ d = ltb-false d 10 e in
+    let z : 87 + d - 97 + 10 ≡ d = omega arith in
+    rw e (sym (reading.letter (87 + d) (omega arith) (omega arith)) ∙ ap (λ x. Some x) z))
 
 abbrev pub Bytes : List ℕ → Type 0
 Bytes [] = Unit {0}
 Bytes (x ∷ xs) = (x < 256) × Bytes xs
 
 pub reads_back : (bs : List ℕ) → Bytes bs → decode (hex_of bs) ≡ some bs
-unfolding decode hex_of before
+unfolding decode hex_of before two_before
 reads_back [] p = refl
 reads_back (x ∷ bs) p =
     let h : x < 256 = p.0 in
     let e : x / 16 * 16 + x % 16 ≡ x = omega arith in
-    rw (digit_glyph (x / 16) (omega arith), digit_glyph (x % 16) (omega arith), both_digits (x / 16) (x % 16) (decode (hex_of bs)) (lt-ltb (x / 16) 16 (omega arith)) (lt-ltb (x % 16) 16 (omega arith)), reads_back bs p.1)
+    rw (digit_glyph (x / 16) (omega arith), digit_glyph (x % 16) (omega arith), reads_back bs p.1)
     (ap (λ (z : ℕ). some (z ∷ bs)) e)

@@ -5,8 +5,8 @@ use Prim.Native.Nat.{ℕ, zero, suc, ◌+◌, ◌-◌, ◌*◌, ◌/◌, ◌%◌
 use native.Mathlib.Omega.{arith}
 use native.Mathlib.Numerals.{add-one}
 use native.Mathlib.Nat.{pow-suc, one-le-pow}
-use lib.ListN.{length, take, get_or, set, length-append, length-set}
-use lib.Seq.{take-suc, take-suc-set, take_all}
+use lib.ListN.{length, take, get_or, length-append}
+use lib.Seq.{take-suc, take_all}
 use borrow.Author.Tests.{lt-ltb, le-ltb}
 use Rattle.io.specs.Digits.{hex_digit_ascii, last_digits, IsDigitCount}
 use Rattle.lines.specs.Hex.{hex_of}
@@ -26,23 +26,6 @@ joined a b s t u at k r q p =
           q.stands (omega arith) ∙ ap (λ (x : List ℕ). x ++ b) (p.stands (omega arith)) ∙ append_assoc (take at s) a b;
       next = λ h. let e : k ≡ at + length a = p.next (omega arith) in let d : r ≡ k + length b = q.next (omega arith) in omega arith;
     }
-
--- one byte
-pub put_goes : (s : List ℕ) (at x : ℕ) → at < length s → Printed (x ∷ []) s (set s at x) at (at + 1)
-put_goes s at x h = record {
-  long = length-set s at x;
-  within = λ k. let l : length (set s at x) ≡ length s = length-set s at x in omega arith;
-  stands = λ k. rw add-one (take-suc-set s at x h);
-  next = λ k. refl;
-}
-
-pub put_full : (s : List ℕ) (at x : ℕ) → length s ≤ at → Printed (x ∷ []) s s at 0
-put_full s at x h = record {
-  long = refl;
-  within = λ k. omega arith;
-  stands = λ k. absurd (omega arith);
-  next = λ k. absurd (omega arith);
-}
 
 -- ---- a loop over a list
 
@@ -69,10 +52,6 @@ module _ (f : List ℕ → List ℕ) (m : Itemwise f) (xs s : List ℕ) (at : �
 
   pub ends : (t : List ℕ) (k i : ℕ) → Through f xs s t at k i → length xs ≤ i → Printed (f xs) s t at k
   ends t k i v h = rw (take_all i xs h) at v.printed
-
--- a word's bytes, one by one
-pub word_each : Itemwise (λ (w : List ℕ). w)
-word_each = record { none = refl; joins = λ a b. refl }
 
 -- bytes as two digits each
 hex_join : (a b : List ℕ) → hex_of (a ++ b) ≡ hex_of a ++ hex_of b

@@ -16,9 +16,6 @@ waits_on a b c (written e) (still f) = written (f ∙ e)
 waits_on a b c (still e) (written f) = written f
 waits_on a b c (written e) (written f) = written f
 
-pub waits_both : (a b c r : ℕ) → r ≡ c → Waits b c → Waits a b → Waits a r
-waits_both a b c r e v w = waits_on a c r (waits_on a b c w v) (still e)
-
 -- the line stands behind what waits, or alone
 module _ (line text text' : List ℕ) (put at r : ℕ) where
   line_adds : Printed line text text' at r → Waits put at → at + line_most ≤ length text → length line ≤ line_most → Adds line (take put text) (take r text')

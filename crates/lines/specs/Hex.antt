@@ -1,16 +1,18 @@
 -- Lower-case hex: the bytes that a line of digits stands for, and the digits of bytes.
 use Rattle.std.specs.Prelude.{ℕ, ◌+◌, ◌*◌, ◌-◌, ◌/◌, ◌%◌, true, false, List, [], ◌∷◌, leb, ltb}
+use Rattle.std.specs.Prelude as rust
+use Rattle.std.specs.Prelude.{Some, None}
 use Rattle.std.proofs.Math.Option.{Option, some, none}
 use Rattle.io.specs.Digits.{hex_digit_ascii}
 
--- the value of a lower-case hex digit, `0` to `9` and `a` to `f`; 16 for any other byte
-unfoldable pub digit_of : ℕ → ℕ
+-- the value of a lower-case hex digit, `0` to `9` and `a` to `f`; none for any other byte
+unfoldable pub digit_of : ℕ → rust.Option ℕ
 digit_of x =
     elim (ltb x 48) [
-      | true ↦ 16
+      | true ↦ None
       | false ↦ elim (leb x 57) [
-        | true ↦ x - 48
-        | false ↦ elim (ltb x 97) [ true ↦ 16 | false ↦ elim (leb x 102) [ true ↦ x - 87 | false ↦ 16 ] ]
+        | true ↦ Some (x - 48)
+        | false ↦ elim (ltb x 97) [ true ↦ None | false ↦ elim (leb x 102) [ true ↦ Some (x - 87) | false ↦ None ] ]
       ]
     ]
 
@@ -20,13 +22,11 @@ before x none = none
 before x (some bs) = some (x ∷ bs)
 
 -- the byte of two digits before the others; nothing where either is no digit
-unfoldable pub two_before : ℕ → ℕ → Option (List ℕ) → Option (List ℕ)
+unfoldable pub two_before : rust.Option ℕ → rust.Option ℕ → Option (List ℕ) → Option (List ℕ)
 unfolding before
-two_before x y others =
-    elim (ltb x 16) [
-      | true ↦ elim (ltb y 16) [ true ↦ before (x * 16 + y) others | false ↦ none ]
-      | false ↦ none
-    ]
+two_before (Some x) (Some y) others = before (x * 16 + y) others
+two_before (Some x) None others = none
+two_before None y others = none
 
 -- what a line stands for: two digits a byte; nothing where it is not an even count of digits
 unfoldable pub decode : List ℕ → Option (List ℕ)

@@ -1,5 +1,5 @@
 -- A line that is read in parts.
-use Rattle.std.specs.Prelude.{ℕ, ◌+◌, ◌*◌, ◌≤◌, ◌≡◌, Bool, true, false, List, [], ◌∷◌, ◌++◌, eqb, ltb, length, take, drop}
+use Rattle.std.specs.Prelude.{ℕ, ◌+◌, ◌*◌, ◌≤◌, ◌<◌, ◌≡◌, Option, Some, None, IfSome, Bool, true, false, List, [], ◌∷◌, ◌++◌, eqb, ltb, length, take, drop}
 use Rattle.lines.specs.declared.read.Got.{Got}
 use Rattle.lines.specs.declared.read.Got.TheVariants.{Form, Bad, End}
 use Rattle.lines.specs.declared.read.Spelling.{Spelling}
@@ -11,10 +11,10 @@ use Rattle.io.specs.Counts.{IsPrefixLen}
 use Rattle.lines.specs.Hex.{digit_of}
 use Rattle.lines.specs.Text.{Waits, Adds, no_line}
 
--- a line so far: the bytes kept, the digit that waits for its second (16: none), whether a byte was met that is no digit
+-- a line so far: the bytes kept, the digit that waits for its second, whether a byte was met that is no digit
 pub record Seen : Type 0 where
   pub bytes : List ℕ
-  pub half : ℕ
+  pub half : Option ℕ
   pub bad : Bool
 
 -- what stands in the form and in the code's record of a line
@@ -30,17 +30,19 @@ unfoldable pub more : Spelling → ℕ → Seen → ℕ → Seen
 unfolding digit_of keep
 more Raw most s x = record { bytes = keep most s.bytes x; half = s.half; bad = s.bad }
 more Hex most s x =
-    elim (ltb (digit_of x) 16) [
-      | true ↦ elim (ltb s.half 16) [
-        | true ↦ record { bytes = keep most s.bytes (s.half * 16 + digit_of x); half = 16; bad = s.bad }
-        | false ↦ record { bytes = s.bytes; half = digit_of x; bad = s.bad }
+    elim (digit_of x) [
+      | Some d ↦ elim s.half [
+        | Some h ↦ record { bytes = keep most s.bytes (h * 16 + d); half = None; bad = s.bad }
+        | None ↦ record { bytes = s.bytes; half = Some d; bad = s.bad }
       ]
-      | false ↦ record { bytes = s.bytes; half = s.half; bad = true }
+      | None ↦ record { bytes = s.bytes; half = s.half; bad = true }
     ]
 
 -- what a line is that has ended: a form where no other byte was met and no digit waits
-unfoldable pub judged : ℕ → Bool → Got
-judged half bad = elim bad [ true ↦ Bad | false ↦ elim (ltb half 16) [ true ↦ Bad | false ↦ Form ] ]
+unfoldable pub judged : Option ℕ → Bool → Got
+judged None false = Form
+judged None true = Bad
+judged (Some h) bad = Bad
 
 -- the line after some bytes, the place after these, and whether a newline ended it
 pub record Walked : Type 0 where
@@ -61,15 +63,17 @@ walk how most s at (x ∷ xs) =
       | false ↦ walk how most (more how most s x) (at + 1) xs
     ]
 
--- what one byte more leaves
+-- what one byte more leaves; a digit that waits is below 16
 pub record Took (how : Spelling) (x : ℕ) (form form' : List ℕ) (l r : Line) : Type 0 where
   pub shows : shown form' r ≡ more how (length form) (shown form l) x
   pub within : r.n ≤ length form'
+  pub small : IfSome r.half (λ h. h < 16)
 
 -- what bytes from a place on leave
 pub record Passed (how : Spelling) (bytes : List ℕ) (from : ℕ) (form form' : List ℕ) (l : Line) (p : Part) : Type 0 where
   pub shows : walked form' p ≡ walk how (length form) (shown form l) from (drop from bytes)
   pub within : p.line.n ≤ length form'
+  pub small : IfSome p.line.half (λ h. h < 16)
 
 -- the next line or the next two: the bytes stand within the forms, and what waited still waits or was written
 pub record Came (forms : List ℕ) (s r : Lines) : Type 0 where

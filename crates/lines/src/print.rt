@@ -47,10 +47,8 @@ pub fn print_word(text: &mut [u8], at: usize, word: &[u8]) -> usize
     ensures { Printed word.now text.old text.new at result }
 {
     let mut k = at;
-    let mut i = 0;
-    while i < word.len() {
-        k = put(text, k, word[i]);
-        i += 1;
+    for x in word {
+        k = put(text, k, *x);
     }
     k
 }
@@ -75,10 +73,8 @@ pub fn print_hex(text: &mut [u8], at: usize, bytes: &[u8]) -> usize
     ensures { Printed (hex_of bytes.now) text.old text.new at result }
 {
     let mut k = at;
-    let mut i = 0;
-    while i < bytes.len() {
-        k = put_byte(text, k, bytes[i]);
-        i += 1;
+    for x in bytes {
+        k = put_byte(text, k, *x);
     }
     k
 }
@@ -113,10 +109,8 @@ pub fn print_numbers(text: &mut [u8], at: usize, numbers: &[usize]) -> usize
     ensures { Printed (numbers_line numbers.now) text.old text.new at result }
 {
     let mut k = at;
-    let mut i = 0;
-    while i < numbers.len() {
-        k = print_number(text, k, numbers[i]);
-        i += 1;
+    for n in numbers {
+        k = print_number(text, k, *n);
     }
     put(text, k, b'\n')
 }

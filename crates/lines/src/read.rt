@@ -1,5 +1,5 @@
 // Reading. A program lends the bytes that reads fill, buf, and the bytes that a line spells, form; only places and lengths go by value.
-ghost use Rattle.std.specs.Prelude.{◌≡◌, ◌+◌, ◌-◌, ◌^◌, ◌≤◌, ◌<◌, length};
+ghost use Rattle.std.specs.Prelude.{◌≡◌, ◌+◌, ◌-◌, ◌^◌, ◌≤◌, ◌<◌, IfSome, length};
 ghost use Rattle.io.specs.Counts.{IsPrefixLen};
 ghost use Rattle.lines.specs.declared.read.Spelling.TheVariants.{Hex, Raw};
 ghost use Rattle.lines.specs.Hex.{digit_of};
@@ -39,12 +39,12 @@ pub struct Lines {
     pub got: Got,
 }
 
-// A line so far: form[..n] has the bytes that it spelt, half is the digit that waits for its second (16: none), bad says that a byte was
-// met that is no digit.
+// A line so far: form[..n] has the bytes that it spelt, half is the digit that waits for its second, bad says that a byte was met that is
+// no digit.
 #[derive(Clone, Copy)]
 struct Line {
     n: usize,
-    half: u8,
+    half: Option<u8>,
     bad: bool,
 }
 
@@ -56,70 +56,51 @@ struct Part {
     ended: bool,
 }
 
-// The value of a digit; 16 for any other byte.
-fn digit(x: u8) -> u8
-    ensures { result ≡ digit_of x }
+// The value of a digit, and none for any other byte.
+fn digit(x: u8) -> Option<u8>
+    ensures value { result ≡ digit_of x }
+    ensures small { IfSome result (λ d. d < 16) }
 {
     match x {
-        b'0'..=b'9' => x - b'0',
-        b'a'..=b'f' => x - b'a' + 10,
-        _ => 16,
-    }
-}
-
-// The line after one byte more, of hex. What form has no room for is dropped.
-fn with_digit(form: &mut [u8], l: Line, x: u8) -> Line
-    requires { l.n ≤ length form.old }
-    ensures { Took Hex x form.old form.new l result }
-{
-    let d = digit(x);
-    let n = l.n;
-    let half = l.half;
-    if 16 <= d {
-        return Line { n, half, bad: true };
-    }
-    if 16 <= half {
-        return Line {
-            n,
-            half: d,
-            bad: l.bad,
-        };
-    }
-    if form.len() <= n {
-        return Line {
-            n,
-            half: 16,
-            bad: l.bad,
-        };
-    }
-    form[n] = half * 16 + d;
-    Line {
-        n: n + 1,
-        half: 16,
-        bad: l.bad,
+        b'0'..=b'9' => Some(x - b'0'),
+        b'a'..=b'f' => Some(x - b'a' + 10),
+        _ => None,
     }
 }
 
 // The line after one byte more, as it stands. What form has no room for is dropped.
 fn with_raw(form: &mut [u8], l: Line, x: u8) -> Line
-    requires { l.n ≤ length form.old }
+    requires fits { l.n ≤ length form.old }
+    requires half { IfSome l.half (λ h. h < 16) }
     ensures { Took Raw x form.old form.new l result }
 {
-    let n = l.n;
-    if form.len() <= n {
+    if form.len() <= l.n {
         return l;
     }
-    form[n] = x;
-    Line {
-        n: n + 1,
-        half: l.half,
-        bad: l.bad,
-    }
+    form[l.n] = x;
+    Line { n: l.n + 1, ..l }
+}
+
+// The line after one byte more, of hex. What form has no room for is dropped.
+fn with_digit(form: &mut [u8], l: Line, x: u8) -> Line
+    requires fits { l.n ≤ length form.old }
+    requires half { IfSome l.half (λ h. h < 16) }
+    ensures { Took Hex x form.old form.new l result }
+{
+    let Some(d) = digit(x) else {
+        return Line { bad: true, ..l };
+    };
+    let Some(h) = l.half else {
+        return Line { half: Some(d), ..l };
+    };
+    let r = with_raw(form, l, h * 16 + d);
+    Line { half: None, ..r }
 }
 
 // The line after one byte more.
 fn with_byte(how: Spelling, form: &mut [u8], l: Line, x: u8) -> Line
-    requires { l.n ≤ length form.old }
+    requires fits { l.n ≤ length form.old }
+    requires half { IfSome l.half (λ h. h < 16) }
     ensures { Took how x form.old form.new l result }
 {
     match how {
@@ -130,26 +111,24 @@ fn with_byte(how: Spelling, form: &mut [u8], l: Line, x: u8) -> Line
 
 // The line after the bytes from a place on, up to a newline or their end.
 fn with_bytes(how: Spelling, bytes: &[u8], from: usize, form: &mut [u8], l: Line) -> Part
-    requires { l.n ≤ length form.old }
+    requires fits { l.n ≤ length form.old }
+    requires half { IfSome l.half (λ h. h < 16) }
     ensures { Passed how bytes.now from form.old form.new l result }
 {
     let mut line = l;
-    let mut at = from;
-    while at < bytes.len() {
-        let x = bytes[at];
-        at += 1;
-        if x == b'\n' {
+    for at in from..bytes.len() {
+        if bytes[at] == b'\n' {
             return Part {
                 line,
-                at,
+                at: at + 1,
                 ended: true,
             };
         }
-        line = with_byte(how, form, line, x);
+        line = with_byte(how, form, line, bytes[at]);
     }
     Part {
         line,
-        at,
+        at: from.max(bytes.len()),
         ended: false,
     }
 }
@@ -158,33 +137,19 @@ fn with_bytes(how: Spelling, bytes: &[u8], from: usize, form: &mut [u8], l: Line
 fn verdict(l: Line) -> Got
     ensures { result ≡ judged l.half l.bad }
 {
-    if l.bad {
-        return Got::Bad;
+    match l.half {
+        None if !l.bad => Got::Form,
+        _ => Got::Bad,
     }
-    if l.half < 16 {
-        return Got::Bad;
-    }
-    Got::Form
-}
-
-// No more than buf has.
-fn within(n: usize, buf: &[u8]) -> usize
-    ensures { IsPrefixLen result buf.now }
-{
-    if n <= buf.len() { n } else { buf.len() }
 }
 
 // Writes the text that waits, and then reads: whoever waits for an outcome before sending more gets it.
 // A read that fails ends the input.
-fn refill(input: Stdin, buf: &mut [u8], text: &[u8], put: usize) -> usize
+fn refill(mut input: Stdin, buf: &mut [u8], text: &[u8], put: usize) -> usize
     ensures { IsPrefixLen result buf.new }
 {
     flush(text, put);
-    let mut from = input;
-    match from.read(buf) {
-        Ok(came) => came,
-        Err(_) => 0,
-    }
+    input.read(buf).unwrap_or(0)
 }
 
 // Where a program starts: nothing waits.
@@ -202,22 +167,14 @@ pub fn start() -> Lines
 }
 
 // How many turns of a program's loop are left: none where the input had no line. A proved loop ends, and nothing says that the input
-// does: so turns and reads are counted down, from a number that no run uses up.
+// does: so turns and reads are counted, and no run uses them up.
 pub fn left(s: Lines, turns: u64) -> u64
     ensures { result ≤ turns - 1 }
 {
-    let g = s.got;
-    match g {
-        Got::Form => fewer(turns),
-        Got::Bad => fewer(turns),
+    match s.got {
+        Got::Form | Got::Bad => turns.saturating_sub(1),
         Got::End => 0,
     }
-}
-
-fn fewer(turns: u64) -> u64
-    ensures { result ≤ turns - 1 }
-{
-    if 0 < turns { turns - 1 } else { 0 }
 }
 
 // Where the input ends: a last line needs no newline.
@@ -247,21 +204,19 @@ pub fn next_line(
 {
     let mut line = Line {
         n: 0,
-        half: 16,
+        half: None,
         bad: false,
     };
     let mut at = s.at;
-    let mut len = within(s.len, buf);
+    let mut len = s.len.min(buf.len());
     let mut put = s.put;
     let mut begun = at < len;
-    let mut turns = u64::MAX;
-    while 0 < turns {
+    for _ in 0..u64::MAX {
         let p = with_bytes(how, &buf[..len], at, form, line);
         line = p.line;
-        at = p.at;
         if p.ended {
             return Lines {
-                at,
+                at: p.at,
                 len,
                 put,
                 first: 0,
@@ -276,7 +231,6 @@ pub fn next_line(
             return last(line, begun);
         }
         begun = true;
-        turns -= 1;
     }
     Lines {
         at,
@@ -293,23 +247,15 @@ fn both(a: Lines, b: Lines) -> Lines
     requires { a.n + b.n < 2 ^ 64 }
     ensures { (result.n ≡ a.n + b.n) × ((result.first ≡ a.n) × (result.put ≡ b.put)) }
 {
-    let g = a.got;
-    let h = b.got;
     Lines {
-        at: b.at,
-        len: b.len,
-        put: b.put,
         first: a.n,
         n: a.n + b.n,
-        got: match g {
-            Got::Form => match h {
-                Got::Form => Got::Form,
-                Got::Bad => Got::Bad,
-                Got::End => Got::Bad,
-            },
-            Got::Bad => Got::Bad,
-            Got::End => Got::End,
+        got: match (a.got, b.got) {
+            (Got::Form, Got::Form) => Got::Form,
+            (Got::End, _) => Got::End,
+            _ => Got::Bad,
         },
+        ..b
     }
 }
 
@@ -326,7 +272,6 @@ pub fn next_two(
     ensures { Came forms.new s result }
 {
     let a = next_line(input, how, buf, forms, text, s);
-    let n = a.n;
-    let b = next_line(input, how, buf, &mut forms[n..], text, a);
+    let b = next_line(input, how, buf, &mut forms[a.n..], text, a);
     both(a, b)
 }

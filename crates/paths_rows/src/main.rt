@@ -13,20 +13,14 @@ use lines::{Got, Lines, Spelling};
 use paths::Number;
 use std::io::Stdin;
 
-// The bytes from an index on.
-fn print_from(bytes: &[u8], from: usize, text: &mut [u8], at: usize) -> usize {
-    if bytes.len() <= from {
-        return lines::print_word(text, at, b"-");
-    }
-    lines::print_hex(text, at, &bytes[from..])
-}
-
 // A number's shortest bytes, as many as it says.
 fn print_number(n: Number, text: &mut [u8], at: usize) -> usize
     requires { n.len ≤ 65 }
 {
-    let bytes = n.bytes;
-    print_from(&bytes, 65 - n.len, text, at)
+    if n.len == 0 {
+        return lines::print_word(text, at, b"-");
+    }
+    lines::print_hex(text, at, &n.bytes[65 - n.len..])
 }
 
 fn print_composed(p: &[u8], q: u8, text: &mut [u8], at: usize) -> usize
@@ -44,9 +38,10 @@ fn print_index(b: &[u8], text: &mut [u8], at: usize) -> usize
 // A word, or nothing.
 fn print_if(yes: bool, word: &[u8], text: &mut [u8], at: usize) -> usize {
     if yes {
-        return lines::print_word(text, at, word);
+        lines::print_word(text, at, word)
+    } else {
+        at
     }
-    at
 }
 
 fn print_longer(b: &[u8], q: u8, text: &mut [u8], at: usize) -> usize
@@ -61,22 +56,16 @@ fn print_longer(b: &[u8], q: u8, text: &mut [u8], at: usize) -> usize
 }
 
 fn print_letter(right: bool, text: &mut [u8], at: usize) -> usize {
-    if right {
-        return lines::print_word(text, at, b"r");
-    }
-    lines::print_word(text, at, b"l")
+    lines::print_word(text, at, if right { b"r" } else { b"l" })
 }
 
 // A letter for each turn, the first turn first.
 fn print_letters(b: &[u8], text: &mut [u8], at: usize) -> usize
     requires { length b.now ≤ 64 }
 {
-    let n = paths::turn_count(b);
     let mut k = at;
-    let mut i: usize = 0;
-    while i < n {
+    for i in 0..paths::turn_count(b) {
         k = print_letter(paths::turn(b, i), text, k);
-        i += 1;
     }
     k
 }
@@ -92,23 +81,12 @@ fn print_turns(b: &[u8], text: &mut [u8], at: usize) -> usize
 }
 
 fn print_row(row: &[u8], text: &mut [u8], at: usize) -> usize {
-    if row.len() < 2 {
-        return lines::print_word(text, at, b"no row");
-    }
-    if 66 < row.len() {
-        return lines::print_word(text, at, b"no row");
-    }
-    let q = row[1];
-    match row[0] {
-        1 => print_composed(&row[2..], q, text, at),
-        2 => print_index(&row[2..], text, at),
-        3 => {
-            if q == 0 {
-                return lines::print_word(text, at, b"no row");
-            }
-            print_longer(&row[2..], q, text, at)
-        }
-        4 => print_turns(&row[2..], text, at),
+    match row {
+        _ if 66 < row.len() => lines::print_word(text, at, b"no row"),
+        [1, q, p @ ..] => print_composed(p, *q, text, at),
+        [2, _, b @ ..] => print_index(b, text, at),
+        [3, q, b @ ..] if 0 < *q => print_longer(b, *q, text, at),
+        [4, _, b @ ..] => print_turns(b, text, at),
         _ => lines::print_word(text, at, b"no row"),
     }
 }
@@ -117,36 +95,29 @@ fn print_row(row: &[u8], text: &mut [u8], at: usize) -> usize {
 fn turn(input: Stdin, buf: &mut [u8], row: &mut [u8], text: &mut [u8], s: Lines) -> Lines
     requires { line_most ≤ length text.old }
 {
-    let mut r = lines::next_line(input, Spelling::Hex, buf, row, text, s);
-    let n = r.n;
+    let r = lines::next_line(input, Spelling::Hex, buf, row, text, s);
     let at = lines::room_for_line(text, r.put);
-    let g = r.got;
-    match g {
+    let put = match r.got {
         Got::Form => {
-            let k = print_row(&row[..n], text, at);
-            r.put = lines::print_word(text, k, b"\n");
-            r
+            let k = print_row(&row[..r.n], text, at);
+            lines::print_word(text, k, b"\n")
         }
-        Got::Bad => {
-            r.put = lines::print_no_line(text, at);
-            r
-        }
-        Got::End => {
-            r.put = at;
-            r
-        }
-    }
+        Got::Bad => lines::print_no_line(text, at),
+        Got::End => at,
+    };
+    Lines { put, ..r }
 }
 
-// Nothing says that the input ends: the turns are counted down, from a number that no run uses up.
+// Nothing says that the input ends: the turns are counted, and no run uses them up.
 fn turns(input: Stdin, buf: &mut [u8], row: &mut [u8], text: &mut [u8])
     requires { line_most ≤ length text.old }
 {
     let mut s = lines::start();
-    let mut left = u64::MAX;
-    while 0 < left {
+    for _ in 0..u64::MAX {
         s = turn(input, buf, row, text, s);
-        left = lines::left(s, left);
+        if matches!(s.got, Got::End) {
+            return;
+        }
     }
 }
 

@@ -1,6 +1,6 @@
 -- `paths_rows::print_composed` meets its contract. Assumes nothing.
-use Rattle.paths.proofs.SignedLaws.{held, number_short}
+use Rattle.paths.proofs.SignedLaws.{number_short}
 use Rattle.paths_rows.proofs.print_composed.Goals as goal
 
-pub compose_paths-requires : goal.compose_paths-requires
-compose_paths-requires c = record { holds = search held; bytes_bound = search number_short }
+pub compose_paths-requires-clause-bytes_bound : goal.compose_paths-requires-clause-bytes_bound
+compose_paths-requires-clause-bytes_bound c = search number_short

@@ -2,11 +2,11 @@
 use Rattle.lines.proofs.Reading as reading
 use Rattle.lines.proofs.read.verdict.Goals as goal
 
-pub returns-then-l : goal.returns-then-l
-returns-then-l c = search reading.judge_bad
+pub returns-in-None : goal.returns-in-None
+returns-in-None c = search reading.judge_form
 
-pub returns-then-l-lt16 : goal.returns-then-l-lt16
-returns-then-l-lt16 c = search reading.judge_half
+pub returns-in_default : goal.returns-in_default
+returns-in_default c = search reading.judge_bad
 
-pub returns : goal.returns
-returns c = search reading.judge_form
+pub returns-in_default-2 : goal.returns-in_default-2
+returns-in_default-2 c = search reading.judge_half

@@ -2,11 +2,8 @@
 use Rattle.lines.proofs.Reading as reading
 use Rattle.lines.proofs.read.with_bytes.Goals as goal
 
-pub loop-at-init : goal.loop-at-init
-loop-at-init c = search reading.walk_starts
-
-pub returns-then-x-eq10 : goal.returns-then-x-eq10
-returns-then-x-eq10 c = search reading.walk_newline
+pub returns-then-bytes-at-eq10 : goal.returns-then-bytes-at-eq10
+returns-then-bytes-at-eq10 c = search reading.walk_newline
 
 pub loop-at-preserved : goal.loop-at-preserved
 loop-at-preserved c = search reading.walk_turn

@@ -2,14 +2,11 @@
 use Rattle.lines.proofs.Reading as reading
 use Rattle.lines.proofs.read.with_digit.Goals as goal
 
-pub returns-then-d-ge16 : goal.returns-then-d-ge16
-returns-then-d-ge16 c = search reading.no_digit
+pub returns-in_default : goal.returns-in_default
+returns-in_default c = search reading.no_digit
 
-pub returns-then-half-ge16 : goal.returns-then-half-ge16
-returns-then-half-ge16 c = search reading.first_digit
-
-pub returns-then-form-n : goal.returns-then-form-n
-returns-then-form-n c = search reading.dropped
+pub returns-in_default-half : goal.returns-in_default-half
+returns-in_default-half c = search reading.first_digit
 
 pub returns : goal.returns
-returns c = search reading.kept
+returns c = search reading.second_digit
