@@ -53,9 +53,6 @@ pub counted_at : (row : List (List ℕ)) (k a b : ℕ) → a ≡ get_or (get_or 
 unfolding count_in
 counted_at row k a b ea eb = rw (ea, eb) refl
 
-pub counted_few : (a b : ℕ) → a < 65536 → b < 65536 → a + b * 65536 < 4294967296
-counted_few a b l m = omega arith
-
 -- ---- counts are exact
 
 -- a record whose numbers count to v

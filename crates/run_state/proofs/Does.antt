@@ -1,15 +1,12 @@
 -- How work comes to say what it says, and what follows where it went on after other work. Assumes nothing.
 use Prim.Native.Nat.{ℕ}
 use native.Mathlib.Omega.{arith}
-use mathlib.Core.Path.{◌≡◌, refl}
+use mathlib.Core.Path.{◌≡◌}
 use mathlib.Core.List.{List}
-use mathlib.Core.Bool.{Bool, true, false, ◌||◌}
+use mathlib.Core.Bool.{false}
 use Rattle.refusals.specs.declared.Refusal.{Refusal}
 use Rattle.meaning.specs.Tree.{Tree, equal_to}
 use Rattle.meaning.specs.Meter.{Out, done, stop, Spent}
-use Rattle.store.specs.declared.Charges.{Charges}
-use Rattle.store.specs.declared.Made.{Made}
-use Rattle.std.specs.Prelude.{Result, Ok, Err}
 use Rattle.store.specs.Nodes.{tree_at}
 use Rattle.store.specs.Store.{Ready}
 use Rattle.store.specs.Makers.{Grown}
@@ -17,7 +14,7 @@ use Rattle.store.proofs.Ready.{grown_both}
 use Rattle.run_state.specs.declared.Outcome.{Outcome}
 use Rattle.run_state.specs.declared.Outcome.TheVariants.{Same, Changed, Stopped}
 use Rattle.run_state.specs.declared.Work.{Work}
-use Rattle.run_state.specs.Work.{spent_of, with_last, marked_work, work_made, SameAs, ChangedTo, StoppedBy, Says, Did}
+use Rattle.run_state.specs.Work.{spent_of, with_last, SameAs, ChangedTo, StoppedBy, Says, Did}
 
 -- ---- three ways to end
 
@@ -76,25 +73,3 @@ module _ (f s s' : List ℕ) (w q : Work) (x : Tree) (def : Out Spent Tree) (h :
       go Same k i = let z : ◌≡◌ {A = ℕ} 0 1 = cc in absurd (omega arith)
       go (Changed m) k i = let z : ◌≡◌ {A = ℕ} 0 1 = cc in absurd (omega arith)
       go (Stopped t) k i = let z : t ≡ r = cc in rw z at k
-
--- ---- small makers of work
-
-pub is_marked : (w : Work) (off : Bool) → off ≡ true → record { ch = w.ch; passes = w.passes; mark = true; last = w.last } ≡ marked_work w off
-is_marked w off e = let z : (w.mark || off) ≡ true = rw e (or_true w.mark) in rw z
-  where
-    or_true : (b : Bool) → (b || true) ≡ true
-    or_true true = refl
-    or_true false = refl
-
-pub not_marked : (w : Work) (off : Bool) → off ≡ false → w ≡ marked_work w off
-not_marked w off e = let z : (w.mark || off) ≡ w.mark = rw e (or_false w.mark) in rw z
-  where
-    or_false : (b : Bool) → (b || false) ≡ b
-    or_false true = refl
-    or_false false = refl
-
-pub put_node : (w : Work) (m : Result Made Refusal) (n : Made) → m ≡ Ok n → record { ch = n.ch; passes = w.passes; mark = w.mark; last = Changed n.node } ≡ work_made w m
-put_node w m n e = rw e
-
-pub put_refused : (w q : Work) (m : Result Made Refusal) (r : Refusal) → m ≡ Err r → q ≡ with_last w (Stopped r) → q ≡ work_made w m
-put_refused w q m r e i = rw e i

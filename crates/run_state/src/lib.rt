@@ -60,30 +60,16 @@ pub struct State {
 pub fn with(w: Work, o: Outcome) -> Work
     ensures { result ≡ with_last w o }
 {
-    let c = w.ch;
-    Work {
-        ch: c,
-        passes: w.passes,
-        mark: w.mark,
-        last: o,
-    }
+    Work { last: o, ..w }
 }
 
 // The same work, marked if off: a mark is never taken away.
 pub fn marked(w: Work, off: bool) -> Work
     ensures { result ≡ marked_work w off }
 {
-    let c = w.ch;
-    let o = w.last;
-    if off {
-        Work {
-            ch: c,
-            passes: w.passes,
-            mark: true,
-            last: o,
-        }
-    } else {
-        w
+    Work {
+        mark: w.mark || off,
+        ..w
     }
 }
 
@@ -103,23 +89,17 @@ pub fn put(w: Work, m: Result<Made, Refusal>) -> Work
 
 // ---- what is noted: the last eight records of the row are the rules' counts, which no entry uses
 
-fn wide(x: u16) -> usize
-    ensures { (result ≡ x) × (result < 65536) }
-{
-    x as usize
-}
-
 // One more: the first number counts, the second how often it was full. (A run has 65,536 passes at most: both are never full.)
 fn one_more(a: Record) -> Record
     ensures { result ≡ one_more a }
 {
-    if a[0] < 65535 {
-        return [a[0] + 1, a[1], 0, 0, 0, 0];
+    if a[0] < u16::MAX {
+        [a[0] + 1, a[1], 0, 0, 0, 0]
+    } else if a[1] < u16::MAX {
+        [0, a[1] + 1, 0, 0, 0, 0]
+    } else {
+        a
     }
-    if a[1] < 65535 {
-        return [0, a[1] + 1, 0, 0, 0, 0];
-    }
-    a
 }
 
 // Rule number k ended a pass.
@@ -131,9 +111,7 @@ pub fn note(row: &mut [Record], notes: Notes, k: usize)
         Notes::Nothing => {}
         Notes::Counts => {
             let i = row.len() - 8 + (k - 1);
-            let a = row[i];
-            let b = one_more(a);
-            row[i] = b;
+            row[i] = one_more(row[i]);
         }
     }
 }
@@ -143,6 +121,6 @@ pub fn count_in(row: &[Record], k: usize) -> usize
     requires { (count_records ≤ length row.now) × (0 < k) × (k ≤ count_records) }
     ensures { (result ≡ count_in row.now k) × (result < 4294967296) }
 {
-    let a = row[row.len() - 8 + (k - 1)];
-    wide(a[0]) + wide(a[1]) * 65536
+    let [low, high, ..] = row[row.len() - 8 + (k - 1)];
+    usize::from(low) + usize::from(high) * 65536
 }

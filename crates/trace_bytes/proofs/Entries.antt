@@ -8,9 +8,8 @@ use native.Mathlib.Omega.{arith}
 use lib.Dec.{leb, eqb, eqb-suc-suc}
 use lib.ListN.{length, take, drop, get_or, length-drop}
 use lib.Seq.{get_or-drop, drop-drop}
-use borrow.Author.Tests.{le-leb, lt-leb, leb-true, leb-false, eqb-true}
+use borrow.Author.Tests.{le-leb, lt-leb}
 use Rattle.meaning.specs.Trace.{entries_of, before_them}
-use Rattle.meaning.proofs.Tests.{on_bool}
 use Rattle.trace_bytes.specs.Bytes.{two_at, is_some, is_whole}
 
 -- ---- the count
@@ -102,9 +101,6 @@ pub record Walking (f : List ℕ) (from at : ℕ) : Type 0 where
   pub within : at ≤ length f
   pub so : is_whole (drop from f) ≡ is_whole (drop at f)
 
-pub walk_starts : (f : List ℕ) (from : ℕ) → from ≤ length f → Walking f from from
-walk_starts f from h = record { within = h; so = refl }
-
 module _ (f : List ℕ) (from at : ℕ) (w : Walking f from at) where
   -- what stands at the place
   here : get_or (drop at f) 0 0 ≡ get_or f at 0
@@ -127,70 +123,12 @@ module _ (f : List ℕ) (from at : ℕ) (w : Walking f from at) where
     pub walk_short : (n : ℕ) → n ≡ two_at f (at + 1) → 3 ≤ length f - at → length f - at - 3 < n → false ≡ is_whole (drop from f)
     walk_short n i l k = sym (w.so ∙ short_left (drop at f) (omega (arith, length-drop at f)) (λ z. e (sym here ∙ z)) (omega (arith, length-drop at f, says)))
 
-    pub walk_next : (n : ℕ) → n ≡ two_at f (at + 1) → 3 ≤ length f - at → n ≤ length f - at - 3 → Walking f from (at + 3 + n)
+    pub walk_next : (n : ℕ) → n ≡ two_at f (at + 1) → 3 ≤ length f - at → n ≤ length f - at - 3 → Walking f from (at + (3 + n))
     walk_next n i l k = record {
       within = omega arith;
       so =
-          let z : at + (3 + two_at (drop at f) 1) ≡ at + 3 + n = omega (arith, says) in
+          let z : at + (3 + two_at (drop at f) 1) ≡ at + (3 + n) = omega (arith, says) in
           w.so
           ∙ next_left (drop at f) (omega (arith, length-drop at f)) (λ x. e (sym here ∙ x)) (omega (arith, length-drop at f, says))
           ∙ ap is_whole (drop-drop (3 + two_at (drop at f) 1) at f ∙ ap (λ (x : ℕ). drop x f) z);
     }
-
--- ---- what entries say of their bytes
-
--- the first of them, and where the others begin
-pub record First (bs : List ℕ) (es : List (List ℕ)) : Type 0 where
-  pub fits : 3 + two_at bs 1 ≤ length bs
-  pub others : List (List ℕ)
-  pub these : entries_of (length (drop (3 + two_at bs 1) bs)) (drop (3 + two_at bs 1) bs) ≡ some others
-  pub is : es ≡ take (3 + two_at bs 1) bs ∷ others
-
--- the counts alone
-pub record Last (bs : List ℕ) (es : List (List ℕ)) : Type 0 where
-  pub long : length bs ≡ 9
-  pub is : es ≡ bs ∷ []
-
-no_entries : {X : Type 0} {es : List (List ℕ)} → none ≡ some es → X
-no_entries e = let z : ◌≡◌ {A = ℕ} 0 1 = cc in absurd (omega arith)
-
-pub entries_some : (bs : List ℕ) (es : List (List ℕ)) → entries_of (length bs) bs ≡ some es → 0 < length bs
-unfolding entries_of
-entries_some [] es e = no_entries e
-entries_some (b ∷ bs) es e = omega arith
-
-pub entries_last : (bs : List ℕ) (es : List (List ℕ)) → entries_of (length bs) bs ≡ some es → get_or bs 0 0 ≡ 0 → Last bs es
-unfolding entries_of
-entries_last [] es e z = no_entries e
-entries_last (suc n ∷ bs) es e z = absurd (omega arith)
-entries_last (zero ∷ bs) es e z =
-    on_bool (eqb (length bs) 8)
-    (λ i. let l : length bs ≡ 8 = eqb-true (length bs) 8 i in record { long = omega arith; is = let k : some ((0 ∷ bs) ∷ []) ≡ some es = rw (i, entries_of) at e in cc })
-    (λ i. no_entries (rw (i, entries_of) at e))
-
--- the entry before the others
-before_is : (e : List ℕ) (o : Option (List (List ℕ))) (es : List (List ℕ)) → before_them e o ≡ some es → (ds : List (List ℕ)) × (o ≡ some ds) × (es ≡ e ∷ ds)
-unfolding before_them
-before_is e none es h = no_entries h
-before_is e (some ds) es h = (ds, refl, cc)
-
-pub entries_first : (bs : List ℕ) (es : List (List ℕ)) → entries_of (length bs) bs ≡ some es → (get_or bs 0 0 ≡ 0 → ⊥) → First bs es
-unfolding entries_of two_at
-entries_first [] es e n = no_entries e
-entries_first (zero ∷ bs) es e n = absurd (n refl)
-entries_first (suc b ∷ []) es e n = no_entries e
-entries_first (suc b ∷ x ∷ []) es e n = no_entries e
-entries_first (suc b ∷ x ∷ y ∷ bs) es e n =
-    on_bool (leb (x * 256 + y) (length bs))
-    (λ i.
-    let l : x * 256 + y ≤ length bs = leb-true (x * 256 + y) (length bs) i in
-    let z : 3 + (x * 256 + y) ≡ suc (suc (suc (x * 256 + y))) = omega arith in
-    let d : length (drop (x * 256 + y) bs) ≡ length bs - (x * 256 + y) = length-drop (x * 256 + y) bs in
-    let k = before_is (suc b ∷ x ∷ y ∷ take (x * 256 + y) bs) (entries_of (suc (suc (length bs))) (drop (x * 256 + y) bs)) es (sym (entries_step (suc (suc (length bs))) b x y bs l) ∙ e) in
-    record {
-      fits = omega arith;
-      others = k.0;
-      these = rw z (entries_fuel (length (drop (x * 256 + y) bs)) (suc (suc (length bs))) (drop (x * 256 + y) bs) (omega arith) (omega arith) ∙ k.1);
-      is = rw z k.2;
-    })
-    (λ i. no_entries (sym (entries_short (suc (suc (length bs))) b x y bs (leb-false (x * 256 + y) (length bs) i)) ∙ e))

@@ -1,67 +1,46 @@
 -- A trace taken apart: what each return needs. Assumes nothing.
 use Prim.Native.Nat.{ℕ, suc, ◌+◌, ◌-◌, ◌*◌, ◌<◌, ◌≤◌}
-use mathlib.Core.Path.{◌≡◌, refl, sym, ◌∙◌, ap}
+use mathlib.Core.Path.{◌≡◌, refl, sym, ◌∙◌, ap, ap₂}
 use mathlib.Core.List.{List, [], ◌∷◌}
 use mathlib.Core.Bool.{Bool, true, false, ◌&&◌, not}
 use mathlib.Core.Option.{Option, none, some}
 use native.Mathlib.Omega.{arith}
 use lib.Dec.{eqb}
-use lib.ListN.{length, take, drop, get_or, length-take, length-drop}
+use lib.ListN.{length, take, drop, get_or, length-drop}
 use lib.Seq.{get_or-take, get_or-drop, drop-drop}
-use borrow.Author.Tests.{le-leb, lt-leb, eq-eqb, not-true, not-false}
+use borrow.Author.Tests.{le-leb, lt-leb, eqb-true, eqb-false, ne_eqb, not-true, not-false}
+use Rattle.std.proofs.Common.{add-zero, lit<}
+use Rattle.std.specs.Int.{w16, from_be_bytes}
+use Rattle.std.specs.Str.{bytes_eq}
 use Rattle.refusals.specs.declared.Refusal.TheVariants.{NotATrace, TraceCut, TraceLong}
 use Rattle.meaning.specs.Tree.{same_bytes}
 use Rattle.meaning.specs.Limits.{trace_limit}
 use Rattle.meaning.specs.Trace.{trace_start, not_taken, entries_of, unless_cut, take_form, take_trace}
 use Rattle.meaning.proofs.Tests.{on_bool}
-use Rattle.meaning.proofs.TreeLaws.{same_bytes_sound}
 use Rattle.trace_bytes.specs.declared.Taken.TheVariants.{Form, Refused}
 use Rattle.trace_bytes.specs.Bytes.{two_at, is_some, is_whole, TakenOk}
 use Rattle.trace_bytes.proofs.Entries.{entries_fuel}
 
 -- ---- two bytes
 
-pub two_is : (f : List ℕ) (at x y : ℕ) → x ≡ get_or f at 0 → y ≡ get_or f (at + 1) 0 → x * 256 + y ≡ two_at f at
+pub two_is : (f bs : List ℕ) (at : ℕ) → bs ≡ take 2 (drop at f) → from_be_bytes w16 bs ≡ two_at f at
 unfolding two_at
-two_is f at x y p q = rw (p, q)
+two_is f bs at e =
+    let read : (k : ℕ) → k < 2 → get_or bs k 0 ≡ get_or f (at + k) 0 = λ k h. rw (e, get_or-take 2 (drop at f) k 0 h) (get_or-drop at f k 0) in
+    rw (read 0 (lit< tt), read 1 (lit< tt), add-zero)
 
 -- ---- mark and version
 
-starts_no : (f : List ℕ) → (take 5 f ≡ trace_start → ⊥) → false ≡ same_bytes (take 5 f) trace_start
-starts_no f n = on_bool (same_bytes (take 5 f) trace_start) (λ e. absurd (n (same_bytes_sound (take 5 f) trace_start e))) (λ e. sym e)
+eqb_swap : (m n : ℕ) → eqb m n ≡ eqb n m
+eqb_swap m n = on_bool (eqb m n) (λ y. rw (eqb-true m n y)) (λ y. y ∙ sym (ne_eqb n m (λ e. eqb-false m n y (sym e))))
 
-pub starts_short : (f : List ℕ) → length f < 5 → false ≡ same_bytes (take 5 f) trace_start
-starts_short f h = starts_no f (λ e. omega (arith, ap length e, length-take 5 f))
-
--- a byte that is another
-starts_other : (f : List ℕ) (i : ℕ) → i < 5 → (get_or f i 0 ≡ get_or trace_start i 0 → ⊥) → false ≡ same_bytes (take 5 f) trace_start
-starts_other f i h n = starts_no f (λ e. n (sym (get_or-take 5 f i 0 h) ∙ ap (λ (l : List ℕ). get_or l i 0) e))
-
-module _ (f : List ℕ) where
-  pub starts_first : (get_or f 0 0 ≡ 67 → ⊥) → false ≡ same_bytes (take 5 f) trace_start
-  starts_first n = starts_other f 0 (omega arith) n
-
-  pub starts_second : (get_or f 1 0 ≡ 76 → ⊥) → false ≡ same_bytes (take 5 f) trace_start
-  starts_second n = starts_other f 1 (omega arith) n
-
-  pub starts_third : (get_or f 2 0 ≡ 84 → ⊥) → false ≡ same_bytes (take 5 f) trace_start
-  starts_third n = starts_other f 2 (omega arith) n
-
-  pub starts_fourth : (get_or f 3 0 ≡ 0 → ⊥) → false ≡ same_bytes (take 5 f) trace_start
-  starts_fourth n = starts_other f 3 (omega arith) n
-
-and_true : (b : Bool) → b ≡ (b && true)
-and_true true = refl
-and_true false = refl
-
-pub starts_last : (f : List ℕ) → 5 ≤ length f → get_or f 0 0 ≡ 67 → get_or f 1 0 ≡ 76 → get_or f 2 0 ≡ 84 → get_or f 3 0 ≡ 0 → eqb (get_or f 4 0) 1 ≡ same_bytes (take 5 f) trace_start
+-- what std's `starts_with` says of them
+pub starts_are : (xs ys : List ℕ) → bytes_eq ys xs ≡ same_bytes xs ys
 unfolding same_bytes
-starts_last [] h p q r s = absurd (omega arith)
-starts_last (a ∷ []) h p q r s = absurd (omega arith)
-starts_last (a ∷ b ∷ []) h p q r s = absurd (omega arith)
-starts_last (a ∷ b ∷ c ∷ []) h p q r s = absurd (omega arith)
-starts_last (a ∷ b ∷ c ∷ d ∷ []) h p q r s = absurd (omega arith)
-starts_last (a ∷ b ∷ c ∷ d ∷ e ∷ f) h p q r s = rw (eq-eqb a 67 p, eq-eqb b 76 q, eq-eqb c 84 r, eq-eqb d 0 s) (and_true (eqb e 1))
+starts_are [] [] = refl
+starts_are [] (y ∷ ys) = refl
+starts_are (x ∷ xs) [] = refl
+starts_are (x ∷ xs) (y ∷ ys) = ap₂ ◌&&◌ (eqb_swap y x) (starts_are xs ys)
 
 -- ---- the form and what follows it
 

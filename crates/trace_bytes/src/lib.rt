@@ -18,11 +18,8 @@ pub enum Taken {
 // Bytes of a trace, at most.
 const TRACE: usize = 65536;
 
-fn wide(x: u8) -> usize
-    ensures { (result ≡ x) × (result < 256) }
-{
-    x as usize
-}
+// Mark and version, which stand at the front.
+const START: &[u8; 5] = b"CLT\0\x01";
 
 // ---- reading
 
@@ -31,29 +28,15 @@ pub fn two_at(trace: &[u8], at: usize) -> usize
     requires { at + 1 < length trace.now }
     ensures { (result ≡ two_at trace.now at) × (result < 65536) }
 {
-    wide(trace[at]) * 256 + wide(trace[at + 1])
+    let bytes: [u8; 2] = trace[at..at + 2].try_into().unwrap();
+    usize::from(u16::from_be_bytes(bytes))
 }
 
 // Whether `CLT` and version 1 stand at the front.
 fn starts(trace: &[u8]) -> bool
     ensures { result ≡ same_bytes (take 5 trace.now) trace_start }
 {
-    if trace.len() < 5 {
-        return false;
-    }
-    if trace[0] != b'C' {
-        return false;
-    }
-    if trace[1] != b'L' {
-        return false;
-    }
-    if trace[2] != b'T' {
-        return false;
-    }
-    if trace[3] != 0 {
-        return false;
-    }
-    trace[4] == 1
+    trace.starts_with(START)
 }
 
 // Whether the bytes from at on are entries and the counts, and no more.
@@ -73,7 +56,7 @@ fn whole_from(trace: &[u8], from: usize) -> bool
         if trace.len() - at - 3 < n {
             return false;
         }
-        at = at + 3 + n;
+        at += 3 + n;
     }
     false
 }
@@ -109,8 +92,7 @@ pub fn put_two(out: &mut [u8], at: usize, n: usize)
     requires { (at + 2 ≤ length out.old) × (n < 65536) }
     ensures { out.new ≡ put_at out.old at (two_bytes n) }
 {
-    out[at] = (n / 256) as u8;
-    out[at + 1] = (n % 256) as u8;
+    out[at..at + 2].copy_from_slice(&(n as u16).to_be_bytes());
 }
 
 // A number as four bytes.
@@ -118,8 +100,7 @@ fn put_four(out: &mut [u8], at: usize, n: usize)
     requires { (at + 4 ≤ length out.old) × (n < 4294967296) }
     ensures { out.new ≡ put_at out.old at (four_bytes n) }
 {
-    put_two(out, at, n / 65536);
-    put_two(out, at + 2, n % 65536);
+    out[at..at + 4].copy_from_slice(&(n as u32).to_be_bytes());
 }
 
 // Mark, version and the form's length.
@@ -127,11 +108,7 @@ pub fn put_start(out: &mut [u8], n: usize)
     requires { (7 ≤ length out.old) × (n < 65536) }
     ensures { out.new ≡ (trace_start ++ two_bytes n) ++ drop 7 out.old }
 {
-    out[0] = b'C';
-    out[1] = b'L';
-    out[2] = b'T';
-    out[3] = 0;
-    out[4] = 1;
+    out[..5].copy_from_slice(START);
     put_two(out, 5, n);
 }
 

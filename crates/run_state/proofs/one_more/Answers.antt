@@ -8,5 +8,5 @@ returns-then-a-lt65535 c = search counting.more_low
 pub returns-then-a-lt65535-2 : goal.returns-then-a-lt65535-2
 returns-then-a-lt65535-2 c = search counting.more_high
 
-pub returns : goal.returns
-returns c = search counting.more_full
+pub returns-else-a-lt65535-2 : goal.returns-else-a-lt65535-2
+returns-else-a-lt65535-2 c = search counting.more_full

@@ -1,6 +1,7 @@
 -- put_four: one line a need; the laws are in Putting. Assumes nothing.
+use Rattle.std.proofs.Common.{◌+◌, ◌-◌, arith}
 use Rattle.trace_bytes.proofs.Putting as laws
 use Rattle.trace_bytes.proofs.put_four.Goals as goal
 
 pub returns : goal.returns
-returns c = search laws.four_put
+returns c = rw (c.copy_from_slice.ensures.after, c.to_be_bytes.ensures) (laws.four_put c.args.out.now c.args.at (c.args.at + 4 - c.args.at) c.args.n (omega arith) (omega arith))

@@ -2,9 +2,6 @@
 use Rattle.trace_bytes.proofs.Entries as laws
 use Rattle.trace_bytes.proofs.whole_from.Goals as goal
 
-pub loop-at-init : goal.loop-at-init
-loop-at-init c = search laws.walk_starts
-
 pub returns-then-trace-at-eq0 : goal.returns-then-trace-at-eq0
 returns-then-trace-at-eq0 c = search laws.walk_last
 
