@@ -34,6 +34,9 @@ pub(crate) enum Frame {
     AfterDot,
 }
 
+// As many are kept as a text may have bytes: one byte each.
+const _: () = prove!(size_of::<Frame>() == 1);
+
 // Between two tokens: where the next stands, what is wanted, how many lists are open, how many bytes stand in the form so far (or none is
 // said: more would have to stand than may).
 #[derive(Clone, Copy)]
