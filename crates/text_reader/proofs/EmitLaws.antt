@@ -173,12 +173,6 @@ atom_over b h = too_many (long_atom b h)
 
 -- ---- emit_pair, emit_part
 
-pub pair_emitted : (f f' : List ℕ) (g g' : Option ℕ) (pair : Bool) → Emits (0xff ∷ []) f f' g g' → pair ≡ true → Emits (pair_byte pair) f f' g g'
-pair_emitted f f' g g' pair h i = rw i h
-
-pub no_pair_emitted : (f : List ℕ) (g : Option ℕ) (pair : Bool) → pair ≡ false → Within g → Emits (pair_byte pair) f f g g
-no_pair_emitted f g pair i h = rw i (emits_none h)
-
 -- a part of a list, or another atom, of more bytes than a form may have
 pub part_over : {f : List ℕ} {g : Option ℕ} (pair : Bool) (b : List ℕ) → 8192 < length b → Emits (pair_byte pair ++ write_atom b) f f g None
 part_over pair b h = too_many (omega (arith, length-append (pair_byte pair) (write_atom b), long_atom b (omega arith)))

@@ -43,25 +43,6 @@ no_byte [] h = refl
 no_byte (x ∷ []) h = absurd (h refl)
 no_byte (x ∷ y ∷ b) h = refl
 
-pub opens_part : (w : Want) (p h : Place) (k : Frame) → (w ≡ First p) ⊎ (w ≡ More p) → h ≡ head_in p → k ≡ back p → Some (record { within = First h; after = k; pair = true }) ≡ opening_of w
-opens_part w p h k (inl i) j l = rw (i, j, l) refl
-opens_part w p h k (inr i) j l = rw (i, j, l) refl
-
-pub opens_none : (w : Want) → (w ≡ Bracket) ⊎ (w ≡ Nothing) → None ≡ opening_of w
-opens_none w (inl i) = rw i refl
-opens_none w (inr i) = rw i refl
-
-pub wanted_part : (w : Want) (p q : Place) (o : Bool) → (w ≡ First p) ⊎ (w ≡ More p) → q ≡ place_after p o → Some (record { want = More q; pair = true }) ≡ wanted_after w o
-wanted_part w p q o (inl i) j = rw (i, j) refl
-wanted_part w p q o (inr i) j = rw (i, j) refl
-
-pub wanted_none : (w : Want) (o : Bool) → (w ≡ Bracket) ⊎ (w ≡ Nothing) → None ≡ wanted_after w o
-wanted_none w o (inl i) = rw i refl
-wanted_none w o (inr i) = rw i refl
-
-pub turned_on : (s : Option Reading) (q : Reading) → s ≡ Some q → Goes q ≡ turn_of s
-turned_on s q i = rw i refl
-
 -- ---- the open lists in the frames
 
 stack_kept : (fr : List Frame) (d i : ℕ) (v : Frame) → d ≤ i → stack_in (set fr i v) d ≡ stack_in fr d
@@ -258,15 +239,3 @@ word_stuck v f s s' r p x next k i j =
 pub word_sub : (v s s' : List ℕ) (at : ℕ) (p : Place) (x : Spelled) → Spelling (word_bytes p v) s s' x → x ≡ From at → at ≤ length s'
 unfolding SpelledOk
 word_sub v s s' at p x k i = let y : Spells (word_bytes p v) s' at = (rw i at k.ok) in y.within
-
--- ---- a dot, and the end
-
-pub dot_more : (r : Reading) (next : ℕ) (p : Place) → r.want ≡ More p → Some (record { at = next; want = Last p; depth = r.depth; grown = r.grown }) ≡ dotted r.want r next
-dot_more r next p i = sym (ap (λ (w : Want). dotted w r next) i)
-
-pub end_nothing : (w : Want) (g : Option ℕ) → w ≡ Nothing → Done g ≡ end_turn w g
-end_nothing w g i = sym (ap (λ (x : Want). end_turn x g) i)
-
--- the room from a place on, as a part of it
-pub spelled_part : (s f f' : List ℕ) (at : ℕ) (r : Reading) (next : ℕ) (t : Option Reading) → AtomOk (take (length s - at) (drop at s)) f f' r next t → AtomOk (drop at s) f f' r next t
-spelled_part s f f' at r next t h = subst (λ (b : List ℕ). AtomOk b f f' r next t) (ap (λ (n : ℕ). take n (drop at s)) (sym (length-drop at s)) ∙ take-length (drop at s)) h

@@ -213,14 +213,3 @@ module _ (text : List ℕ) (at from to : ℕ) (tk : Token) where
   pub quoted_fits : TokenOk text at tk → tk ≡ Quoted from to → length text ≤ text_limit → Fits w64 (to + 1)
   unfolding TokenOk
   quoted_fits o e h = let z : InQuotes text at from to = (rw e at o) in let b : to < length text = z.within in record { fits = omega arith }
-
-pub word_room : (text room : List ℕ) (from to : ℕ) → length text ≤ text_limit → room_least ≤ length room → length (between text from to) < length room
-word_room text room from to h k =
-    let a : length (take (to - from) (drop from text)) ≤ length (drop from text) = few (to - from) (drop from text) in
-    let b : length (drop from text) ≡ length text - from = length-drop from text in
-    omega arith
-  where
-    few : (n : ℕ) (l : List ℕ) → length (take n l) ≤ length l
-    few zero l = omega arith
-    few (suc n) [] = omega arith
-    few (suc n) (x ∷ l) = let z : length (take n l) ≤ length l = few n l in omega arith

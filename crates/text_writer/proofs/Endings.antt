@@ -213,14 +213,6 @@ module _ (p : Place) (b out : List ℕ) (fits : length (text_rest (atom b) p) �
 -- ---- either
 
 module _ (p : Place) (rest : Bool) (b : List ℕ) where
-  pub end_rest : (k : ℕ) → k ≡ length (text_rest (atom b) p) → rest ≡ true → k ≡ length (part_text rest (atom b) p)
-  unfolding part_text
-  end_rest k e h = rw h e
-
-  pub end_alone : (k : ℕ) → k ≡ length (atom_text p b) → rest ≡ false → k ≡ length (part_text rest (atom b) p)
-  unfolding part_text text_at
-  end_alone k e h = rw h e
-
   module _ (out : List ℕ) (fits : length (part_text rest (atom b) p) ≤ length out) where
     pub rest_fits : rest ≡ true → length (text_rest (atom b) p) ≤ length out
     unfolding part_text
