@@ -131,6 +131,7 @@ fn on_open(frames: &mut [Frame], form: &mut [u8], r: Reading, next: usize) -> Op
 }
 
 // The innermost list is closed, with g in the form.
+#[tactic(auto, unfolding(crate::specs::Turns::PopOk, crate::specs::Machine::pop, crate::specs::Turns::stack_in))]
 fn pop(frames: &[Frame], depth: usize, grown: Option<usize>, next: usize) -> Option<Reading>
     requires { depth ≤ length frames.now }
     ensures { PopOk frames.now depth grown next result }

@@ -49,6 +49,7 @@ fn begins_hex(w: &[u8]) -> bool
 }
 
 // Two digits as a byte.
+#[tactic(auto, unfolding(crate::specs::Digits::hex_pair, crate::specs::Digits::found, crate::specs::Digits::Small, notation::specs::Words::and_then))]
 fn hex_pair(c: u8, d: u8) -> Option<u8>
     ensures { hex_pair c d ≡ found result }
 {
