@@ -95,22 +95,6 @@ open_stuck fr f r next s i j =
 
 -- ---- a closing bracket
 
-pub pop_none : (fr : List Frame) (depth : ℕ) (g : Option ℕ) (next : ℕ) → depth ≡ 0 → PopOk fr depth g next None
-unfolding PopOk pop stack_in
-pop_none fr depth g next h = record { so = λ e. rw (h, stack_in) refl }
-
-pub pop_done : (fr : List Frame) (depth : ℕ) (g : Option ℕ) (next : ℕ) (w : Want) → (depth ≡ 0 → ⊥) → w ≡ want_of (get_or fr (depth - 1) Outermost)
-    → PopOk fr depth g next (Some (record { at = next; want = w; depth = depth - 1; grown = g }))
-unfolding PopOk pop stack_in
-pop_done fr depth g next w h e = record {
-  at = refl;
-  deep = omega arith;
-  grown = refl;
-  so = λ l.
-      let z : depth ≡ suc (depth - 1) = omega arith in
-      ap (λ (d : ℕ). pop (stack_in fr d) l) z ∙ ap (λ (x : Want). on x (stack_in fr (depth - 1)) l) (sym e);
-}
-
 -- what was popped, once the list's end is emitted
 popped : (fr : List Frame) (f f' : List ℕ) (r : Reading) (next : ℕ) (g : Option ℕ) (more : List ℕ) (s : Option Reading) → Emits more f f' r.grown g
     → ((e : List ℕ) → on_closing r.want (stack_in fr r.depth) e ≡ pop (stack_in fr r.depth) (e ++ more)) → PopOk fr r.depth g next s → StepOk on_closing fr fr f f' r next s

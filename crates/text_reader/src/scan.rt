@@ -106,7 +106,6 @@ fn word_from(text: &[u8], at: usize, end: usize) -> Token
 }
 
 // What the quote that opens at at begins.
-#[tactic(auto, unfolding(crate::specs::Tokens::TokenOk, crate::specs::Tokens::ClosedOk), using(crate::proofs::ScanLaws::here_quoted, crate::proofs::ScanLaws::here_wrong))]
 fn quoted_from(text: &[u8], at: usize) -> Token
     requires { (at < length text.now) × (kind_of (get_or text.now at 0) ≡ Quotes) }
     ensures { TokenOk text.now at result }

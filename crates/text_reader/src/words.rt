@@ -20,6 +20,7 @@ fn operator_of(c: u8) -> Option<u8>
 }
 
 // The number of the operator that a word names at a place.
+#[tactic(auto, unfolding(notation::specs::Words::named, notation::specs::Words::and_then, crate::specs::Digits::named_by, crate::specs::Digits::operator))]
 fn named(p: Place, w: &[u8]) -> Option<u8>
     ensures { named p w.now ≡ operator result }
 {
