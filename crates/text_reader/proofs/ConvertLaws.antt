@@ -18,6 +18,7 @@ use Rattle.form.specs.Spans.{stops}
 use Rattle.notation.specs.Texts.{text_limit}
 use Rattle.notation.specs.Grammar.{Token, Spot, spot, spots, signs, tokens, whole, tree_of_text, read_text}
 use Rattle.notation.specs.Faults.{first_place, place_of_last, fault}
+use Rattle.text_reader.specs.declared.machine.Frame.{Frame}
 use Rattle.text_reader.specs.declared.machine.Reading.{Reading}
 use Rattle.text_reader.specs.declared.machine.Turn.{Turn}
 use Rattle.text_reader.specs.declared.machine.Turn.TheVariants.{Goes, Done, Fails}
@@ -121,12 +122,12 @@ one_more text at next (reached before e) (one_token s i) = reached (before ++ (s
 
 -- ---- the loop
 
-pub record Going (text fr f : List ℕ) (r : Reading) : Type 0 where
+pub record Going (text : List ℕ) (fr : List Frame) (f : List ℕ) (r : Reading) : Type 0 where
   pub fair : Fair text fr f r
   pub came : Comes (all_of text) text fr f r
   pub upto : Reached text r.at
 
-pub going_starts : (text fr f : List ℕ) (r : Reading) → r ≡ begun → length text ≤ text_limit → text_limit ≤ length fr → form_limit ≤ length f → Going text fr f r
+pub going_starts : (text : List ℕ) (fr : List Frame) (f : List ℕ) (r : Reading) → r ≡ begun → length text ≤ text_limit → text_limit ≤ length fr → form_limit ≤ length f → Going text fr f r
 unfolding stack_in
 going_starts text fr f r i a b c = subst (λ (x : Reading). Going text fr f x) (sym i) (record {
   fair = record { at = omega arith; deep = omega arith; short = omega arith; room = c; within = omega arith };
@@ -134,7 +135,7 @@ going_starts text fr f r i a b c = subst (λ (x : Reading). Going text fr f x) (
   upto = reached [] refl;
 })
 
-module _ (text fr fr' f f' : List ℕ) (r : Reading) (t : Turn) where
+module _ (text : List ℕ) (fr fr' : List Frame) (f f' : List ℕ) (r : Reading) (t : Turn) where
   pub going_on : (q : Reading) → TurnOk text fr fr' f f' r t → t ≡ Goes q → Going text fr f r → Going text fr' f' q
   unfolding TurnOk
   going_on q o e w =
@@ -165,7 +166,7 @@ module _ (text fr fr' f f' : List ℕ) (r : Reading) (t : Turn) where
       then : NoText text fr r → Comes (all_of text) text fr f r → all_of text ≡ stop NoParse (signs_at text r.at)
       then z (comes l m j) = j ∙ z.so l
 
-pub going_less : (text fr fr' f f' : List ℕ) (r q : Reading) (t : Turn) (m : ℕ) → TurnOk text fr fr' f f' r t → t ≡ Goes q → Going text fr f r → length text + 1 - r.at ≡ m → length text + 1 - q.at < m
+pub going_less : (text : List ℕ) (fr fr' : List Frame) (f f' : List ℕ) (r q : Reading) (t : Turn) (m : ℕ) → TurnOk text fr fr' f f' r t → t ≡ Goes q → Going text fr f r → length text + 1 - r.at ≡ m → length text + 1 - q.at < m
 going_less text fr fr' f f' r q t m o e w i =
     let z : r.at < q.at = going_later text fr fr' f f' r t q o e in
     let y : r.at ≤ length text = w.fair.at in

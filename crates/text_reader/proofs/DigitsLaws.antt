@@ -145,12 +145,3 @@ module _ {w s₀ s : List ℕ} {n from i : ℕ} (t : Hexing w s₀ s n from i) w
               ∙ ap some (append-nil (take i (drop from s)) ∙ take_all i (drop from s) l);
         };
       }
-
-  pub hex_same : length s ≡ length s₀
-  hex_same = t.long
-
-  pub hex_fits : i < n → from + i < length s
-  hex_fits h = omega (arith, t.room, t.long)
-
-  pub hex_second : i < n → 3 + 2 * i < length w
-  hex_second h = omega (arith, t.even)

@@ -92,53 +92,7 @@ pub nothing_emitted : {f : List ℕ} → 8192 ≤ length f → Emitted [] f (Som
 unfolding Holds
 nothing_emitted {f} h = record { long = h; within = omega arith; holds = record { count = refl; front = refl } }
 
--- ---- emit_length
-
-short_is : (n : ℕ) → n < 64 → (128 + n) ∷ [] ≡ write_length n
-unfolding write_length
-short_is n h = rw (lt-ltb n 64 h, write_length)
-
-long_is : (n : ℕ) → 64 ≤ n → n < 8192 → (192 + n / 256) ∷ n % 256 ∷ [] ≡ write_length n
-unfolding write_length
-long_is n h l = rw (le-ltb n 64 h, lt-ltb n 8192 l, write_length)
-
-pub length_short : {f f' : List ℕ} {g r : Option ℕ} (n : ℕ) → Emits ((128 + n) ∷ []) f f' g r → n < 64 → Emits (write_length n) f f' g r
-length_short {f} {f'} {g} {r} n s h = subst (λ (x : List ℕ). Emits x f f' g r) (short_is n h) s
-
-pub length_long : {f f₁ f₂ : List ℕ} {g h r : Option ℕ} (n : ℕ) → Emits (n % 256 ∷ []) f₁ f₂ h r → Emits ((192 + n / 256) ∷ []) f f₁ g h → 64 ≤ n → n < 8192 → Emits (write_length n) f f₂ g r
-length_long {f} {f₁} {f₂} {g} {h} {r} n t s k l = subst (λ (x : List ℕ). Emits x f f₂ g r) (long_is n k l) (then_emits s t)
-
 -- ---- emit_atom
-
--- one byte
-one_alone : (x : ℕ) → x < 128 → write_atom (x ∷ []) ≡ x ∷ []
-unfolding write_atom
-one_alone x h = rw (lt-ltb x 128 h, write_atom)
-
-one_after : (x : ℕ) → 128 ≤ x → write_atom (x ∷ []) ≡ 129 ∷ x ∷ []
-unfolding write_atom
-one_after x h = rw (le-ltb x 128 h, write_atom)
-
--- an atom's bytes, alone or after their length
-pub prefix_none : (b : List ℕ) → length b < 1 → write_atom b ≡ prefixed true b
-unfolding write_atom prefixed write_length
-prefix_none [] h = refl
-prefix_none (x ∷ b) h = absurd (omega arith)
-
-pub prefix_one : (b : List ℕ) → 1 ≤ length b → length b < 2 → write_atom b ≡ prefixed (leb 128 (get_or b 0 0)) b
-unfolding write_atom prefixed write_length
-prefix_one [] h l = absurd (omega arith)
-prefix_one (x ∷ []) h l =
-    on_bool (leb 128 x)
-    (λ e. one_after x (leb-true 128 x e) ∙ sym (ap (λ (u : Bool). prefixed u (x ∷ [])) e))
-    (λ e. one_alone x (leb-false 128 x e) ∙ sym (ap (λ (u : Bool). prefixed u (x ∷ [])) e))
-prefix_one (x ∷ y ∷ b) h l = absurd (omega arith)
-
-pub prefix_more : (b : List ℕ) → 2 ≤ length b → write_atom b ≡ prefixed true b
-unfolding write_atom prefixed
-prefix_more [] h = absurd (omega arith)
-prefix_more (x ∷ []) h = absurd (omega arith)
-prefix_more (x ∷ y ∷ b) h = refl
 
 pub atom_alone : {f f' : List ℕ} {g r : Option ℕ} {v : Bool} (b : List ℕ) → Emits b f f' g r → write_atom b ≡ prefixed v b → v ≡ false → Emits (write_atom b) f f' g r
 unfolding prefixed
@@ -170,14 +124,6 @@ long_atom (x ∷ y ∷ b) h = omega (arith, length-append (write_length (length 
 
 pub atom_over : {f : List ℕ} {g : Option ℕ} (b : List ℕ) → 8192 ≤ length b → Emits (write_atom b) f f g None
 atom_over b h = too_many (long_atom b h)
-
--- ---- emit_pair, emit_part
-
-pub pair_emitted : (f f' : List ℕ) (g g' : Option ℕ) (pair : Bool) → Emits (0xff ∷ []) f f' g g' → pair ≡ true → Emits (pair_byte pair) f f' g g'
-pair_emitted f f' g g' pair h i = rw i h
-
-pub no_pair_emitted : (f : List ℕ) (g : Option ℕ) (pair : Bool) → pair ≡ false → Within g → Emits (pair_byte pair) f f g g
-no_pair_emitted f g pair i h = rw i (emits_none h)
 
 -- a part of a list, or another atom, of more bytes than a form may have
 pub part_over : {f : List ℕ} {g : Option ℕ} (pair : Bool) (b : List ℕ) → 8192 < length b → Emits (pair_byte pair ++ write_atom b) f f g None

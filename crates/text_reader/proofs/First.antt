@@ -10,6 +10,7 @@ use Rattle.meaning.specs.Form.{write}
 use Rattle.meaning.specs.Meter.{Out, done, stop}
 use Rattle.meaning.proofs.MeterLaws.{not_stop}
 use Rattle.notation.specs.Grammar.{Token, whole}
+use Rattle.text_reader.specs.declared.machine.Frame.{Frame}
 use Rattle.text_reader.specs.declared.machine.Want.{Want}
 use Rattle.text_reader.specs.declared.machine.Want.TheVariants.{Whole, First, More, Last, Bracket, Nothing}
 use Rattle.text_reader.specs.Machine.{Next, on, no, on_token, at_end, run}
@@ -19,7 +20,7 @@ use Rattle.text_reader.proofs.Open.{left_same, Good, GoesWell, goes_well, went_w
 -- ---- the machine
 
 -- the tokens ts are some before u, and then u and us; and whatever follows u, the machine stops there
-pub data Stopped (ts : List Token) (w : Want) (st f : List ℕ) (u : Token) (us : List Token) : Type 0 where
+pub data Stopped (ts : List Token) (w : Want) (st : List Frame) (f : List ℕ) (u : Token) (us : List Token) : Type 0 where
   stopped : (before : List Token) → ts ≡ before ++ (u ∷ us) → ((vs : List Token) → run (before ++ (u ∷ vs)) w st f ≡ stop NoParse (u ∷ vs)) → Stopped ts w st f u us
 
 -- the end leaves nothing
@@ -32,18 +33,18 @@ end_leaves (More p) f u us h = absurd (let z : length (u ∷ us) ≡ 0 = ap leng
 end_leaves (Last p) f u us h = absurd (let z : length (u ∷ us) ≡ 0 = ap length (sym (left_same h)) in omega arith)
 end_leaves Bracket f u us h = absurd (let z : length (u ∷ us) ≡ 0 = ap length (sym (left_same h)) in omega arith)
 
-machine_stops : (ts : List Token) (w : Want) (st f : List ℕ) (u : Token) (us : List Token) → run ts w st f ≡ stop NoParse (u ∷ us) → Stopped ts w st f u us
+machine_stops : (ts : List Token) (w : Want) (st : List Frame) (f : List ℕ) (u : Token) (us : List Token) → run ts w st f ≡ stop NoParse (u ∷ us) → Stopped ts w st f u us
 unfolding run
 machine_stops [] w st f u us h = end_leaves w f u us h
 machine_stops (t ∷ ts) w st f u us h = go (on_token t w st f) refl (λ w' st' f' k. machine_stops ts w' st' f' u us k)
   where
-    further : (w' : Want) (st' f' : List ℕ) → on_token t w st f ≡ on w' st' f' → Stopped ts w' st' f' u us → Stopped (t ∷ ts) w st f u us
+    further : (w' : Want) (st' : List Frame) (f' : List ℕ) → on_token t w st f ≡ on w' st' f' → Stopped ts w' st' f' u us → Stopped (t ∷ ts) w st f u us
     further w' st' f' e (stopped before i k) = stopped (t ∷ before) (ap (t ∷◌) i) (λ vs. rw (e, run) (k vs))
 
     here : on_token t w st f ≡ no → t ∷ ts ≡ u ∷ us → Stopped (t ∷ ts) w st f u us
     here e i = let z : t ≡ u = cc in let d : on_token u w st f ≡ no = (rw z at e) in stopped [] i (λ vs. rw (d, run) refl)
 
-    go : (o : Next) → on_token t w st f ≡ o → ((w' : Want) (st' f' : List ℕ) → run ts w' st' f' ≡ stop NoParse (u ∷ us) → Stopped ts w' st' f' u us) → Stopped (t ∷ ts) w st f u us
+    go : (o : Next) → on_token t w st f ≡ o → ((w' : Want) (st' : List Frame) (f' : List ℕ) → run ts w' st' f' ≡ stop NoParse (u ∷ us) → Stopped ts w' st' f' u us) → Stopped (t ∷ ts) w st f u us
     go (on w' st' f') e ih = further w' st' f' e (ih w' st' f' (rw (e, run) at h))
     go no e ih = here e (left_same (rw (e, run) at h))
 

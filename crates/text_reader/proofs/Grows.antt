@@ -16,6 +16,8 @@ use Rattle.notation.specs.declared.Place.TheVariants.{Operator, Code, Data}
 use Rattle.notation.specs.Words.{word_bytes}
 use Rattle.notation.specs.Texts.{head_in, is_one, after}
 use Rattle.notation.specs.Grammar.{Token, opening, closing, dot, wrong, word, quoted, P, first_token, next_token, misplaced, element, closes, element_and_rest, last_part, in_list, rest_of, no_more, all_read, whole}
+use Rattle.text_reader.specs.declared.machine.Frame.{Frame}
+use Rattle.text_reader.specs.declared.machine.Frame.TheVariants.{Outermost, AfterDot}
 use Rattle.text_reader.specs.declared.machine.Want.{Want}
 use Rattle.text_reader.specs.declared.machine.Want.TheVariants.{Whole, First, More, Last, Bracket, Nothing}
 use Rattle.text_reader.specs.Machine.{Next, on, no, want_of, back, on_opening, pop, on_closing, on_dot, on_atom, on_word, on_token, at_end, run}
@@ -165,7 +167,7 @@ not_one (suc k) p (word w ∷ ts) e us h = pair_not_one (λ q c. rest_of k q c) 
 not_one (suc k) p (quoted s ∷ ts) e us h = pair_not_one (λ q c. rest_of k q c) p (quoted s) ts e us h
 not_one (suc k) p (wrong ∷ ts) e us h = not_stop h
 
--- so what follows it is what its number says
+-- so what follows it is what is wanted once it is closed
 back_is : (p : Place) (e : Tree) → is_one e ≡ false → want_of (back p) ≡ More (after p e)
 unfolding want_of after
 back_is Operator e h = rw (h, after) refl
@@ -175,18 +177,18 @@ back_is Data e h = refl
 -- ---- the machine reads the rest of a list as the definition does
 
 -- what the machine makes of the rest of a list, once it is read
-abbrev goes_on : ℕ → List ℕ → List ℕ → Tree → List Token → Out (List Token) (List ℕ)
+abbrev goes_on : Frame → List Frame → List ℕ → Tree → List Token → Out (List Token) (List ℕ)
 goes_on j st f t us = run us (want_of j) st (f ++ write t)
 
 unfoldable Follows : (Place → Bool → P Tree) → ℕ → Type 0
-Follows rest k = (ts : List Token) → length ts ≤ k → (p : Place) (b : Bool) (j : ℕ) (st f : List ℕ) → run ts (in_a_list p b) (j ∷ st) f ≡ onward (rest p b ts) (goes_on j st f)
+Follows rest k = (ts : List Token) → length ts ≤ k → (p : Place) (b : Bool) (j : Frame) (st : List Frame) (f : List ℕ) → run ts (in_a_list p b) (j ∷ st) f ≡ onward (rest p b ts) (goes_on j st f)
 
 module _ (k : ℕ) (ih : Follows (λ q c. rest_of k q c) k) where
   rest : Place → Bool → P Tree
   rest q c = rest_of k q c
 
   -- an element and what is wanted after it
-  follows_list : (ts : List Token) → length ts ≤ k → (p : Place) (b : Bool) (st f : List ℕ)
+  follows_list : (ts : List Token) → length ts ≤ k → (p : Place) (b : Bool) (st : List Frame) (f : List ℕ)
       → run (opening ∷ ts) (in_a_list p b) st f ≡ onward (rest (head_in p) false ts) (λ e us. run us (More (after p e)) st ((f ++ (0xff ∷ [])) ++ write e))
   unfolding run on_token on_opening Follows rest
   follows_list ts h p b st f =
@@ -199,12 +201,12 @@ module _ (k : ℕ) (ih : Follows (λ q c. rest_of k q c) k) where
       begins true = refl
       begins false = refl
 
-  follows_atom : (ts : List Token) (p : Place) (b : Bool) (a st f : List ℕ) → run (quoted a ∷ ts) (in_a_list p b) st f ≡ run ts (More (after p (atom a))) st ((f ++ (0xff ∷ [])) ++ write (atom a))
+  follows_atom : (ts : List Token) (p : Place) (b : Bool) (a : List ℕ) (st : List Frame) (f : List ℕ) → run (quoted a ∷ ts) (in_a_list p b) st f ≡ run ts (More (after p (atom a))) st ((f ++ (0xff ∷ [])) ++ write (atom a))
   unfolding run on_token on_atom write
   follows_atom ts p true a st f = refl
   follows_atom ts p false a st f = refl
 
-  follows_word : (ts : List Token) (p : Place) (b : Bool) (v st f : List ℕ)
+  follows_word : (ts : List Token) (p : Place) (b : Bool) (v : List ℕ) (st : List Frame) (f : List ℕ)
       → run (word v ∷ ts) (in_a_list p b) st f ≡ onward (element (rest (head_in p) false) p (word v) ts) (λ e us. run us (More (after p e)) st ((f ++ (0xff ∷ [])) ++ write e))
   unfolding run on_token on_word on_atom element onward give refuse misplaced write
   follows_word ts p true v st f = go (word_bytes p v)
@@ -223,7 +225,7 @@ module _ (k : ℕ) (ih : Follows (λ q c. rest_of k q c) k) where
       go none = refl
 
   -- the rest of the list after an element
-  then_rest : (ts : List Token) → length ts ≤ k → (p : Place) (t : Token) (j : ℕ) (st f : List ℕ)
+  then_rest : (ts : List Token) → length ts ≤ k → (p : Place) (t : Token) (j : Frame) (st : List Frame) (f : List ℕ)
       → onward (element (rest (head_in p) false) p t ts) (λ e us. run us (More (after p e)) (j ∷ st) ((f ++ (0xff ∷ [])) ++ write e)) ≡ onward (element_and_rest rest p t ts) (goes_on j st f)
   unfolding element_and_rest Follows rest
   then_rest ts h p t j st f =
@@ -244,7 +246,7 @@ module _ (k : ℕ) (ih : Follows (λ q c. rest_of k q c) k) where
           ∙ sym (onward_bind_give (rest_of k (after p e) true) (λ r. pair e r) us (goes_on j st f))
 
   -- after a dot
-  bracket : (us : List Token) (e : Tree) (j : ℕ) (st f : List ℕ) → run us Bracket (j ∷ st) (f ++ write e) ≡ onward ((next_token >>= λ c. closes c >> give e) us) (goes_on j st f)
+  bracket : (us : List Token) (e : Tree) (j : Frame) (st : List Frame) (f : List ℕ) → run us Bracket (j ∷ st) (f ++ write e) ≡ onward ((next_token >>= λ c. closes c >> give e) us) (goes_on j st f)
   unfolding run on_token on_opening on_closing on_dot on_atom on_word pop at_end onward next_token first_token closes give refuse misplaced ◌>>=◌ ◌>>◌
   bracket [] e j st f = refl
   bracket (closing ∷ us) e j st f = refl
@@ -259,11 +261,11 @@ module _ (k : ℕ) (ih : Follows (λ q c. rest_of k q c) k) where
   bracket (quoted a ∷ us) e j st f = refl
 
   -- what is wanted after a dot
-  last_element : (ts : List Token) → length ts ≤ suc k → (p : Place) (j : ℕ) (st f : List ℕ)
+  last_element : (ts : List Token) → length ts ≤ suc k → (p : Place) (j : Frame) (st : List Frame) (f : List ℕ)
       → run ts (Last p) (j ∷ st) f ≡ onward ((next_token >>= λ t. element (rest p false) p t) ts) (λ e us. run us Bracket (j ∷ st) (f ++ write e))
   unfolding run on_token on_opening on_closing on_dot on_atom on_word at_end onward next_token first_token element give refuse misplaced ◌>>=◌ write Follows rest want_of
   last_element [] h p j st f = refl
-  last_element (opening ∷ ts) h p j st f = ih ts (omega arith) p false 3 (j ∷ st) f
+  last_element (opening ∷ ts) h p j st f = ih ts (omega arith) p false AfterDot (j ∷ st) f
   last_element (closing ∷ ts) h p j st f = refl
   last_element (dot ∷ ts) h p j st f = refl
   last_element (wrong ∷ ts) h p j st f = refl
@@ -276,7 +278,7 @@ module _ (k : ℕ) (ih : Follows (λ q c. rest_of k q c) k) where
       go (some a) = refl
       go none = refl
 
-  follows_last : (ts : List Token) → length ts ≤ suc k → (p : Place) (j : ℕ) (st f : List ℕ) → run ts (Last p) (j ∷ st) f ≡ onward (last_part rest p ts) (goes_on j st f)
+  follows_last : (ts : List Token) → length ts ≤ suc k → (p : Place) (j : Frame) (st : List Frame) (f : List ℕ) → run ts (Last p) (j ∷ st) f ≡ onward (last_part rest p ts) (goes_on j st f)
   unfolding last_part
   follows_last ts h p j st f =
       last_element ts h p j st f
@@ -288,7 +290,7 @@ module _ (k : ℕ) (ih : Follows (λ q c. rest_of k q c) k) where
       ∙ sym (onward_bind (element (rest p false) p t) (λ e. next_token >>= λ c. closes c >> give e) us (goes_on j st f)))
       ∙ sym (onward_bind next_token (λ t. element (rest p false) p t >>= λ e. next_token >>= λ c. closes c >> give e) ts (goes_on j st f))
 
-  follows_token : (t : Token) (ts : List Token) → length ts ≤ k → (p : Place) (b : Bool) (j : ℕ) (st f : List ℕ) → run (t ∷ ts) (in_a_list p b) (j ∷ st) f ≡ onward (in_list rest p b t ts) (goes_on j st f)
+  follows_token : (t : Token) (ts : List Token) → length ts ≤ k → (p : Place) (b : Bool) (j : Frame) (st : List Frame) (f : List ℕ) → run (t ∷ ts) (in_a_list p b) (j ∷ st) f ≡ onward (in_list rest p b t ts) (goes_on j st f)
   unfolding in_list run on_token on_closing on_dot pop onward give refuse misplaced ◌>>◌ ◌>>=◌ write write_atom element
   follows_token closing ts h p true j st f = refl
   follows_token closing ts h p false j st f = refl
@@ -327,7 +329,7 @@ ends (word v ∷ us) e = go (word_bytes Data v)
 first_element : (k : ℕ) (ts : List Token) → length ts ≤ suc k → run ts Whole [] [] ≡ onward ((next_token >>= λ t. element (rest_of k Operator false) Code t) ts) (λ e us. run us Nothing [] (write e))
 unfolding run on_token on_opening on_closing on_dot on_atom on_word at_end onward next_token first_token element give refuse misplaced ◌>>=◌ write Follows want_of
 first_element k [] h = refl
-first_element k (opening ∷ ts) h = follows k ts (omega arith) Operator false 0 [] []
+first_element k (opening ∷ ts) h = follows k ts (omega arith) Operator false Outermost [] []
 first_element k (closing ∷ ts) h = refl
 first_element k (dot ∷ ts) h = refl
 first_element k (wrong ∷ ts) h = refl

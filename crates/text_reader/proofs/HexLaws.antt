@@ -77,31 +77,6 @@ module _ {c : ℕ} where
   pub digit_beyond : 0x66 < c → Digit c None
   digit_beyond h = digit_none (over 0x30 0x39 c (omega arith) (omega arith)) (over 0x61 0x66 c (omega arith) h) (over 0x41 0x46 c (omega arith) (omega arith))
 
--- ---- hex_pair
-
-module _ {c : ℕ} where
-  pub pair_first : (d : ℕ) {r : Maybe ℕ} → Digit c None → r ≡ None → hex_pair c d ≡ found r
-  unfolding hex_pair and_then found
-  pair_first d s e = rw (e, s.is, hex_pair)
-
-  pub pair_second : {d v : ℕ} {r : Maybe ℕ} → Digit c (Some v) → Digit d None → r ≡ None → hex_pair c d ≡ found r
-  unfolding hex_pair and_then found
-  pair_second s t e = rw (e, s.is, t.is, hex_pair)
-
-  pub pair_both : {d v w : ℕ} → Digit c (Some v) → Digit d (Some w) → hex_pair c d ≡ found (Some (v * 16 + w))
-  unfolding hex_pair and_then found
-  pair_both {d} {v} {w} s t =
-      let z : 16 * v + w ≡ v * 16 + w = omega arith in
-      rw (s.is, t.is, hex_pair) (ap some z)
-
-  pub high_fits : {v : ℕ} → Digit c (Some v) → Fits w8 (v * 16)
-  unfolding Small
-  high_fits s = record { fits = omega (arith, s.small) }
-
-  pub both_fit : {d v w : ℕ} → Digit c (Some v) → Digit d (Some w) → Fits w8 (v * 16 + w)
-  unfolding Small
-  both_fit s t = record { fits = omega (arith, s.small, t.small) }
-
 -- ---- begins_hex
 
 hex_short : (w : List ℕ) → length w < 3 → hex_word w ≡ none

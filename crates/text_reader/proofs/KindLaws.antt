@@ -25,35 +25,3 @@ blank_is Plain h = not_false h
 blank_is Opens h = not_false h
 blank_is Closes h = not_false h
 blank_is Quotes h = not_false h
-
--- the two tests, by what the kind is
-module _ (c : ℕ) {k : Kind} (e : k ≡ kind_of c) where
-  pub blank_blank : k ≡ Blank → true ≡ is_blank (kind_of c)
-  unfolding is_blank
-  blank_blank f = ap is_blank (sym f ∙ e)
-
-  pub blank_else : (k ≡ Blank → ⊥) → false ≡ is_blank (kind_of c)
-  unfolding is_blank
-  blank_else n = go k n ∙ ap is_blank e
-    where
-      go : (k : Kind) → (k ≡ Blank → ⊥) → false ≡ is_blank k
-      go Blank n = absurd (n refl)
-      go Plain n = refl
-      go Opens n = refl
-      go Closes n = refl
-      go Quotes n = refl
-
-  pub plain_plain : k ≡ Plain → true ≡ is_plain (kind_of c)
-  unfolding is_plain
-  plain_plain f = ap is_plain (sym f ∙ e)
-
-  pub plain_else : (k ≡ Plain → ⊥) → false ≡ is_plain (kind_of c)
-  unfolding is_plain
-  plain_else n = go k n ∙ ap is_plain e
-    where
-      go : (k : Kind) → (k ≡ Plain → ⊥) → false ≡ is_plain k
-      go Plain n = absurd (n refl)
-      go Blank n = refl
-      go Opens n = refl
-      go Closes n = refl
-      go Quotes n = refl

@@ -21,6 +21,8 @@ use Rattle.notation.specs.Texts.{head_in, is_one, after, place_after}
 use Rattle.decimals.specs.declared.Spelled.{Spelled}
 use Rattle.decimals.specs.declared.Spelled.TheVariants.{From, Long, Nothing as not-spelled}
 use Rattle.decimals.specs.Spelling.{Spells, SpellsLong, spells_long, SpelledOk, Spelling}
+use Rattle.text_reader.specs.declared.machine.Frame.{Frame}
+use Rattle.text_reader.specs.declared.machine.Frame.TheVariants.{Outermost, AfterDot}
 use Rattle.text_reader.specs.declared.machine.Want.{Want}
 use Rattle.text_reader.specs.declared.machine.Want.TheVariants.{Whole, First, More, Last, Bracket, Nothing}
 use Rattle.text_reader.specs.declared.machine.Reading.{Reading}
@@ -41,71 +43,36 @@ no_byte [] h = refl
 no_byte (x ∷ []) h = absurd (h refl)
 no_byte (x ∷ y ∷ b) h = refl
 
-pub wants_nothing : (k : ℕ) → k ≡ 0 → Nothing ≡ want_of k
-unfolding want_of
-wants_nothing k h = rw (eq-eqb k 0 h, want_of) refl
-
-pub wants_code : (k : ℕ) → k ≡ 1 → More Code ≡ want_of k
-unfolding want_of
-wants_code k h = rw (ne_eqb k 0 (λ z. absurd (omega arith)), eq-eqb k 1 h, want_of) refl
-
-pub wants_data : (k : ℕ) → k ≡ 2 → More Data ≡ want_of k
-unfolding want_of
-wants_data k h = rw (ne_eqb k 0 (λ z. absurd (omega arith)), ne_eqb k 1 (λ z. absurd (omega arith)), eq-eqb k 2 h, want_of) refl
-
-pub wants_bracket : (k : ℕ) → (k ≡ 0 → ⊥) → (k ≡ 1 → ⊥) → (k ≡ 2 → ⊥) → Bracket ≡ want_of k
-unfolding want_of
-wants_bracket k a b c = rw (ne_eqb k 0 a, ne_eqb k 1 b, ne_eqb k 2 c, want_of) refl
-
-pub opens_part : (w : Want) (p h : Place) (k : ℕ) → (w ≡ First p) ⊎ (w ≡ More p) → h ≡ head_in p → k ≡ back p → Some (record { within = First h; after = k; pair = true }) ≡ opening_of w
-opens_part w p h k (inl i) j l = rw (i, j, l) refl
-opens_part w p h k (inr i) j l = rw (i, j, l) refl
-
-pub opens_none : (w : Want) → (w ≡ Bracket) ⊎ (w ≡ Nothing) → None ≡ opening_of w
-opens_none w (inl i) = rw i refl
-opens_none w (inr i) = rw i refl
-
-pub wanted_part : (w : Want) (p q : Place) (o : Bool) → (w ≡ First p) ⊎ (w ≡ More p) → q ≡ place_after p o → Some (record { want = More q; pair = true }) ≡ wanted_after w o
-wanted_part w p q o (inl i) j = rw (i, j) refl
-wanted_part w p q o (inr i) j = rw (i, j) refl
-
-pub wanted_none : (w : Want) (o : Bool) → (w ≡ Bracket) ⊎ (w ≡ Nothing) → None ≡ wanted_after w o
-wanted_none w o (inl i) = rw i refl
-wanted_none w o (inr i) = rw i refl
-
-pub turned_on : (s : Option Reading) (q : Reading) → s ≡ Some q → Goes q ≡ turn_of s
-turned_on s q i = rw i refl
-
 -- ---- the open lists in the frames
 
-stack_kept : (fr : List ℕ) (d i v : ℕ) → d ≤ i → stack_in (set fr i v) d ≡ stack_in fr d
+stack_kept : (fr : List Frame) (d i : ℕ) (v : Frame) → d ≤ i → stack_in (set fr i v) d ≡ stack_in fr d
 unfolding stack_in
 stack_kept fr zero i v h = refl
-stack_kept fr (suc d) i v h = rw (get_or-set_other fr i d v 0 (omega arith), stack_kept fr d i v (omega arith)) refl
+stack_kept fr (suc d) i v h = rw (get_or-set_other fr i d v Outermost (omega arith), stack_kept fr d i v (omega arith)) refl
 
-pub stack_push : (fr : List ℕ) (d v : ℕ) → d < length fr → stack_in (set fr d v) (suc d) ≡ v ∷ stack_in fr d
+pub stack_push : (fr : List Frame) (d : ℕ) (v : Frame) → d < length fr → stack_in (set fr d v) (suc d) ≡ v ∷ stack_in fr d
 unfolding stack_in
-stack_push fr d v h = rw (get_or-set_same fr d v 0 h, stack_kept fr d d v (omega arith)) refl
+stack_push fr d v h = rw (get_or-set_same fr d v Outermost h, stack_kept fr d d v (omega arith)) refl
 
 sym_add_one : (d : ℕ) → suc d ≡ d + 1
 sym_add_one d = omega arith
 
 -- ---- an opening bracket
 
-opened : Option Opened → List ℕ → List ℕ → Next
+opened : Option Opened → List Frame → List ℕ → Next
 opened (Some o) st f = on o.within (o.after ∷ st) (f ++ pair_byte o.pair)
 opened None st f = no
 
-opening_is : (w : Want) (st f : List ℕ) → on_opening w st f ≡ opened (opening_of w) st f
+opening_is : (w : Want) (st : List Frame) (f : List ℕ) → on_opening w st f ≡ opened (opening_of w) st f
 unfolding on_opening opened
-opening_is Whole st f = ap (λ (l : List ℕ). on (First Operator) (0 ∷ st) l) (sym (append-nil f))
+opening_is Whole st f = ap (λ (l : List ℕ). on (First Operator) (Outermost ∷ st) l) (sym (append-nil f))
 opening_is (First p) st f = refl
 opening_is (More p) st f = refl
-opening_is (Last p) st f = ap (λ (l : List ℕ). on (First p) (3 ∷ st) l) (sym (append-nil f))
+opening_is (Last p) st f = ap (λ (l : List ℕ). on (First p) (AfterDot ∷ st) l) (sym (append-nil f))
 opening_is Bracket st f = refl
 opening_is Nothing st f = refl
 
-pub open_done : (fr f f' : List ℕ) (r : Reading) (g : Option ℕ) (o : Opened) (next : ℕ) → Some o ≡ opening_of r.want → Emits (pair_byte o.pair) f f' r.grown g → r.depth < length fr
+pub open_done : (fr : List Frame) (f f' : List ℕ) (r : Reading) (g : Option ℕ) (o : Opened) (next : ℕ) → Some o ≡ opening_of r.want → Emits (pair_byte o.pair) f f' r.grown g → r.depth < length fr
     → StepOk on_opening fr (set fr r.depth o.after) f f' r next (Some (record { at = next; want = o.within; depth = r.depth + 1; grown = g }))
 unfolding StepOk opened
 open_done fr f f' r g o next i e h = record {
@@ -117,10 +84,10 @@ open_done fr f f' r g o next i e h = record {
   so = λ l m. leads (l ++ pair_byte o.pair) (e.so l m)
       (opening_is r.want (stack_in fr r.depth) l
       ∙ ap (λ (x : Option Opened). opened x (stack_in fr r.depth) l) (sym i)
-      ∙ ap (λ (st : List ℕ). on o.within st (l ++ pair_byte o.pair)) (sym (subst (λ (d : ℕ). stack_in (set fr r.depth o.after) d ≡ o.after ∷ stack_in fr r.depth) (sym_add_one r.depth) (stack_push fr r.depth o.after h))));
+      ∙ ap (λ (st : List Frame). on o.within st (l ++ pair_byte o.pair)) (sym (subst (λ (d : ℕ). stack_in (set fr r.depth o.after) d ≡ o.after ∷ stack_in fr r.depth) (sym_add_one r.depth) (stack_push fr r.depth o.after h))));
 }
 
-pub open_stuck : (fr f : List ℕ) (r : Reading) (next : ℕ) (s : Option Reading) → None ≡ opening_of r.want → s ≡ None → StepOk on_opening fr fr f f r next s
+pub open_stuck : (fr : List Frame) (f : List ℕ) (r : Reading) (next : ℕ) (s : Option Reading) → None ≡ opening_of r.want → s ≡ None → StepOk on_opening fr fr f f r next s
 unfolding StepOk opened
 open_stuck fr f r next s i j =
     subst (λ (x : Option Reading). StepOk on_opening fr fr f f r next x) (sym j)
@@ -128,24 +95,8 @@ open_stuck fr f r next s i j =
 
 -- ---- a closing bracket
 
-pub pop_none : (fr : List ℕ) (depth : ℕ) (g : Option ℕ) (next : ℕ) → depth ≡ 0 → PopOk fr depth g next None
-unfolding PopOk pop stack_in
-pop_none fr depth g next h = record { so = λ e. rw (h, stack_in) refl }
-
-pub pop_done : (fr : List ℕ) (depth : ℕ) (g : Option ℕ) (next : ℕ) (w : Want) → (depth ≡ 0 → ⊥) → w ≡ want_of (get_or fr (depth - 1) 0)
-    → PopOk fr depth g next (Some (record { at = next; want = w; depth = depth - 1; grown = g }))
-unfolding PopOk pop stack_in
-pop_done fr depth g next w h e = record {
-  at = refl;
-  deep = omega arith;
-  grown = refl;
-  so = λ l.
-      let z : depth ≡ suc (depth - 1) = omega arith in
-      ap (λ (d : ℕ). pop (stack_in fr d) l) z ∙ ap (λ (x : Want). on x (stack_in fr (depth - 1)) l) (sym e);
-}
-
 -- what was popped, once the list's end is emitted
-popped : (fr f f' : List ℕ) (r : Reading) (next : ℕ) (g : Option ℕ) (more : List ℕ) (s : Option Reading) → Emits more f f' r.grown g
+popped : (fr : List Frame) (f f' : List ℕ) (r : Reading) (next : ℕ) (g : Option ℕ) (more : List ℕ) (s : Option Reading) → Emits more f f' r.grown g
     → ((e : List ℕ) → on_closing r.want (stack_in fr r.depth) e ≡ pop (stack_in fr r.depth) (e ++ more)) → PopOk fr r.depth g next s → StepOk on_closing fr fr f f' r next s
 unfolding StepOk PopOk
 popped fr f f' r next g more (Some q) e i h = record {
@@ -158,18 +109,18 @@ popped fr f f' r next g more (Some q) e i h = record {
 }
 popped fr f f' r next g more None e i h = record { so = λ l. i l ∙ h.so (l ++ more) }
 
-pub close_part : (fr f f' : List ℕ) (r : Reading) (next : ℕ) (g : Option ℕ) (s : Option Reading) → PopOk fr r.depth g next s → Emits (0x80 ∷ []) f f' r.grown g
+pub close_part : (fr : List Frame) (f f' : List ℕ) (r : Reading) (next : ℕ) (g : Option ℕ) (s : Option Reading) → PopOk fr r.depth g next s → Emits (0x80 ∷ []) f f' r.grown g
     → ((p : Place) × (r.want ≡ First p)) ⊎ ((p : Place) × (r.want ≡ More p)) → StepOk on_closing fr fr f f' r next s
 unfolding on_closing
 close_part fr f f' r next g s h e (inl i) = popped fr f f' r next g (0x80 ∷ []) s e (λ l. ap (λ (w : Want). on_closing w (stack_in fr r.depth) l) i.1) h
 close_part fr f f' r next g s h e (inr i) = popped fr f f' r next g (0x80 ∷ []) s e (λ l. ap (λ (w : Want). on_closing w (stack_in fr r.depth) l) i.1) h
 
-pub close_bracket : (fr f : List ℕ) (r : Reading) (next : ℕ) (s : Option Reading) → PopOk fr r.depth r.grown next s → r.want ≡ Bracket → Within r.grown → StepOk on_closing fr fr f f r next s
+pub close_bracket : (fr : List Frame) (f : List ℕ) (r : Reading) (next : ℕ) (s : Option Reading) → PopOk fr r.depth r.grown next s → r.want ≡ Bracket → Within r.grown → StepOk on_closing fr fr f f r next s
 unfolding on_closing
 close_bracket fr f r next s h i k =
     popped fr f f r next r.grown [] s (emits_none k) (λ l. ap (λ (w : Want). on_closing w (stack_in fr r.depth) l) i ∙ ap (λ (m : List ℕ). pop (stack_in fr r.depth) m) (sym (append-nil l))) h
 
-pub close_none : (fr f : List ℕ) (r : Reading) (next : ℕ) → (r.want ≡ Whole) ⊎ (((p : Place) × (r.want ≡ Last p)) ⊎ (r.want ≡ Nothing)) → StepOk on_closing fr fr f f r next None
+pub close_none : (fr : List Frame) (f : List ℕ) (r : Reading) (next : ℕ) → (r.want ≡ Whole) ⊎ (((p : Place) × (r.want ≡ Last p)) ⊎ (r.want ≡ Nothing)) → StepOk on_closing fr fr f f r next None
 unfolding on_closing StepOk
 close_none fr f r next (inl i) = record { so = λ e. ap (λ (w : Want). on_closing w (stack_in fr r.depth) e) i }
 close_none fr f r next (inr (inl i)) = record { so = λ e. ap (λ (w : Want). on_closing w (stack_in fr r.depth) e) i.1 }
@@ -177,7 +128,7 @@ close_none fr f r next (inr (inr i)) = record { so = λ e. ap (λ (w : Want). on
 
 -- ---- an atom
 
-atomic : Option Wanted → List ℕ → List ℕ → List ℕ → Next
+atomic : Option Wanted → List ℕ → List Frame → List ℕ → Next
 atomic (Some w) b st f = on w.want st ((f ++ pair_byte w.pair) ++ write_atom b)
 atomic None b st f = no
 
@@ -187,7 +138,7 @@ after_is Operator b = on_bool (is_byte 1 b) (λ e. rw (e, after) refl) (λ e. rw
 after_is Code b = refl
 after_is Data b = refl
 
-atom_is : (w : Want) (b st f : List ℕ) → on_atom w b st f ≡ atomic (wanted_after w (is_byte 1 b)) b st f
+atom_is : (w : Want) (b : List ℕ) (st : List Frame) (f : List ℕ) → on_atom w b st f ≡ atomic (wanted_after w (is_byte 1 b)) b st f
 unfolding on_atom atomic
 atom_is Whole b st f = ap (λ (l : List ℕ). on Nothing st (l ++ write_atom b)) (sym (append-nil f))
 atom_is (First p) b st f = ap (λ (q : Place). on (More q) st ((f ++ (0xff ∷ [])) ++ write_atom b)) (after_is p b)
@@ -197,7 +148,7 @@ atom_is Bracket b st f = refl
 atom_is Nothing b st f = refl
 
 -- an atom, by what is wanted after it
-atom_as : (b : List ℕ) (w : Want) (o : Option Wanted) (one : Bool) (st f : List ℕ) → o ≡ wanted_after w one → one ≡ is_byte 1 b → on_atom w b st f ≡ atomic o b st f
+atom_as : (b : List ℕ) (w : Want) (o : Option Wanted) (one : Bool) (st : List Frame) (f : List ℕ) → o ≡ wanted_after w one → one ≡ is_byte 1 b → on_atom w b st f ≡ atomic o b st f
 atom_as b w o one st f i k = atom_is w b st f ∙ ap (λ (x : Option Wanted). atomic x b st f) (sym (i ∙ ap (λ (x : Bool). wanted_after w x) k))
 
 pub atom_done : (b f f' : List ℕ) (r : Reading) (g : Option ℕ) (o : Wanted) (one : Bool) (next : ℕ) → Some o ≡ wanted_after r.want one → Emits (pair_byte o.pair ++ write_atom b) f f' r.grown g
@@ -229,11 +180,11 @@ long_stuck r next s i j = record { so = λ b f h. atom_stuck b f r false next s 
 
 -- ---- a word
 
-word_as : (w : Want) (v b st e : List ℕ) → word_bytes (place_of w) v ≡ some b → on_word w v st e ≡ on_atom w b st e
+word_as : (w : Want) (v b : List ℕ) (st : List Frame) (e : List ℕ) → word_bytes (place_of w) v ≡ some b → on_word w v st e ≡ on_atom w b st e
 unfolding on_word
 word_as w v b st e i = rw (i, on_word) refl
 
-led : {o o' : Next} {st f : List ℕ} {q : Reading} → o ≡ o' → LeadsOn o' st f q → LeadsOn o st f q
+led : {o o' : Next} {st : List Frame} {f : List ℕ} {q : Reading} → o ≡ o' → LeadsOn o' st f q → LeadsOn o st f q
 led i (leads_on e m j) = leads_on e m (i ∙ j)
 
 -- a word of the bytes b is an atom of them
@@ -272,15 +223,3 @@ word_stuck v f s s' r p x next k i j =
 pub word_sub : (v s s' : List ℕ) (at : ℕ) (p : Place) (x : Spelled) → Spelling (word_bytes p v) s s' x → x ≡ From at → at ≤ length s'
 unfolding SpelledOk
 word_sub v s s' at p x k i = let y : Spells (word_bytes p v) s' at = (rw i at k.ok) in y.within
-
--- ---- a dot, and the end
-
-pub dot_more : (r : Reading) (next : ℕ) (p : Place) → r.want ≡ More p → Some (record { at = next; want = Last p; depth = r.depth; grown = r.grown }) ≡ dotted r.want r next
-dot_more r next p i = sym (ap (λ (w : Want). dotted w r next) i)
-
-pub end_nothing : (w : Want) (g : Option ℕ) → w ≡ Nothing → Done g ≡ end_turn w g
-end_nothing w g i = sym (ap (λ (x : Want). end_turn x g) i)
-
--- the room from a place on, as a part of it
-pub spelled_part : (s f f' : List ℕ) (at : ℕ) (r : Reading) (next : ℕ) (t : Option Reading) → AtomOk (take (length s - at) (drop at s)) f f' r next t → AtomOk (drop at s) f f' r next t
-spelled_part s f f' at r next t h = subst (λ (b : List ℕ). AtomOk b f f' r next t) (ap (λ (n : ℕ). take n (drop at s)) (sym (length-drop at s)) ∙ take-length (drop at s)) h

@@ -22,9 +22,6 @@ pub record Seeking (c i : ℕ) : Type 0 where
   pub within : i ≤ 9
   pub is : numbered c 1 names ≡ numbered c (suc i) (drop i names)
 
-pub seek_starts : (c : ℕ) → Seeking c 0
-seek_starts c = record { within = omega arith; is = refl }
-
 module _ (c i : ℕ) (s : Seeking c i) where
   -- the name at which the loop stands
   seek_here : i < 9 → numbered c 1 names ≡ numbered c (suc i) (get_or names i 0 ∷ drop (suc i) names)

@@ -121,9 +121,6 @@ pub record Skipping (text : List ℕ) (at i : ℕ) : Type 0 where
   pub within : i ≤ length text
   pub is : spots_at text at ≡ spots_at text i
 
-pub skip_starts : {text : List ℕ} {at : ℕ} → at ≤ length text → Skipping text at at
-skip_starts h = record { after = omega arith; within = h; is = refl }
-
 module _ {text : List ℕ} {at i : ℕ} (s : Skipping text at i) where
   pub skip_turn : {b : Bool} → i < length text → b ≡ is_blank (kind_of (get_or text i 0)) → not b ≡ false → Skipping text at (i + 1)
   skip_turn {b} h f n = record {
@@ -131,14 +128,6 @@ module _ {text : List ℕ} {at i : ℕ} (s : Skipping text at i) where
     within = omega arith;
     is = s.is ∙ first_blank text i h (blank_is (kind_of (get_or text i 0)) (sym f ∙ tests.not-false b n));
   }
-
-  pub skip_found : {b : Bool} → i < length text → b ≡ is_blank (kind_of (get_or text i 0)) → not b ≡ true → Skipped text at i
-  skip_found {b} h f n = record { after = s.after; within = s.within; is = s.is; stops = λ l. sym f ∙ tests.not-true b n }
-
-  pub skip_all : length text ≤ i → Skipped text at (length text)
-  skip_all h =
-      let z : i ≡ length text = omega (arith, s.within) in
-      record { after = omega (arith, s.after); within = omega arith; is = s.is ∙ ap (spots_at text) z; stops = λ l. absurd (omega arith) }
 
 -- ---- word_end
 
@@ -152,13 +141,6 @@ pub record Going (text : List ℕ) (at i : ℕ) : Type 0 where
   pub after : at ≤ i
   pub within : i ≤ length text
   pub is : (w : List ℕ) → spots_from (drop at text) at w ≡ spots_from (drop i text) i (w ++ between text at i)
-
-pub word_starts : {text : List ℕ} {at : ℕ} → at ≤ length text → Going text at at
-word_starts {text} {at} h = record {
-  after = omega arith;
-  within = h;
-  is = λ w. ap (spots_from (drop at text) at) (sym (ap (w ++◌) (between_none text at) ∙ append-nil w));
-}
 
 module _ {text : List ℕ} {at i : ℕ} (s : Going text at i) where
   pub word_turn : {b : Bool} → i < length text → b ≡ is_plain (kind_of (get_or text i 0)) → not b ≡ false → Going text at (i + 1)
@@ -216,9 +198,6 @@ pub record Quoting (text : List ℕ) (at i : ℕ) : Type 0 where
   pub after : at ≤ i
   pub within : i ≤ length text
   pub is : (q : ℕ) → quoted_from (drop at text) at q [] ≡ quoted_from (drop i text) i q (between text at i)
-
-pub quote_starts : {text : List ℕ} (q : ℕ) → q < length text → Quoting text (q + 1) (q + 1)
-quote_starts {text} q h = record { after = omega arith; within = omega arith; is = λ p. ap (quoted_from (drop (q + 1) text) (q + 1) p) (sym (between_none text (q + 1))) }
 
 module _ {text : List ℕ} {at i : ℕ} (s : Quoting text at i) where
   quote_here : i < length text → (q : ℕ) → quoted_from (drop at text) at q [] ≡ quoted_from (get_or text i 0 ∷ drop (i + 1) text) i q (between text at i)
@@ -395,13 +374,6 @@ then_token {text} {at} {i} t o s = later text at i s t o
 pub no_token : {text : List ℕ} {at i : ℕ} → Skipped text at i → length text ≤ i → TokenOk text at End
 unfolding TokenOk
 no_token {text} {at} {i} s h = record { is = s.is ∙ spots_past text i h }
-
--- what stands after separators is none
-pub no_blank : {text : List ℕ} {at i : ℕ} → Skipped text at i → i < length text → is_blank (kind_of (get_or text i 0)) ≡ false
-no_blank s h = s.stops h
-
-pub here_quotes : {k : Kind} (c : ℕ) → k ≡ kind_of c → k ≡ Quotes → kind_of c ≡ Quotes
-here_quotes c e f = sym e ∙ f
 
 -- ---- next_place
 

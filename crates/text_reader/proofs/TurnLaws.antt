@@ -14,6 +14,7 @@ use Rattle.notation.specs.Grammar.{opening, closing, dot, wrong, word, quoted, s
 use Rattle.notation.specs.Grammar.{Token as Sign}
 use Rattle.text_reader.specs.declared.scan.Token.{Token}
 use Rattle.text_reader.specs.declared.scan.Token.TheVariants.{End, Open, Close, Dot, Word, Quoted, Wrong}
+use Rattle.text_reader.specs.declared.machine.Frame.{Frame}
 use Rattle.text_reader.specs.declared.machine.Want.{Want}
 use Rattle.text_reader.specs.declared.machine.Want.TheVariants.{Whole, First, More, Last, Bracket, Nothing}
 use Rattle.text_reader.specs.declared.machine.Reading.{Reading}
@@ -27,7 +28,7 @@ use Rattle.text_reader.specs.Turns.{stack_in, Leads, leads, StepOk, LeadsOn, lea
 
 -- ---- steps that look at no open list
 
-pass_step : (fr f f' : List ℕ) (k : Want → List ℕ → List ℕ → Next) (r : Reading) (next : ℕ) (s : Option Reading) → PassOk k f f' r next s → StepOk k fr fr f f' r next s
+pass_step : (fr : List Frame) (f f' : List ℕ) (k : Want → List Frame → List ℕ → Next) (r : Reading) (next : ℕ) (s : Option Reading) → PassOk k f f' r next s → StepOk k fr fr f f' r next s
 unfolding PassOk StepOk
 pass_step fr f f' k r next (Some q) h = record {
   at = h.at;
@@ -42,7 +43,7 @@ pass_step fr f f' k r next (Some q) h = record {
     led {o} (leads_on e m i) = leads e m (i ∙ ap (λ (d : ℕ). on q.want (stack_in fr d) e) (sym h.deep))
 pass_step fr f f' k r next None h = record { so = λ e. h.so (stack_in fr r.depth) e }
 
-dot_step : (fr f : List ℕ) (r : Reading) (next : ℕ) (w : Want) → r.want ≡ w → Within r.grown → StepOk on_dot fr fr f f r next (dotted w r next)
+dot_step : (fr : List Frame) (f : List ℕ) (r : Reading) (next : ℕ) (w : Want) → r.want ≡ w → Within r.grown → StepOk on_dot fr fr f f r next (dotted w r next)
 unfolding StepOk on_dot
 dot_step fr f r next (More p) i h = record {
   at = refl;
@@ -60,11 +61,11 @@ dot_step fr f r next Nothing i h = record { so = λ e. ap (λ (x : Want). on_dot
 
 -- ---- one token
 
-run_on : (t : Sign) (ts : List Sign) (w w' : Want) (st st' e e' : List ℕ) → on_token t w st e ≡ on w' st' e' → run (t ∷ ts) w st e ≡ run ts w' st' e'
+run_on : (t : Sign) (ts : List Sign) (w w' : Want) (st st' : List Frame) (e e' : List ℕ) → on_token t w st e ≡ on w' st' e' → run (t ∷ ts) w st e ≡ run ts w' st' e'
 unfolding run
 run_on t ts w w' st st' e e' i = rw (i, run) refl
 
-run_no : (t : Sign) (ts : List Sign) (w : Want) (st e : List ℕ) → on_token t w st e ≡ no → run (t ∷ ts) w st e ≡ stop not-parsed (t ∷ ts)
+run_no : (t : Sign) (ts : List Sign) (w : Want) (st : List Frame) (e : List ℕ) → on_token t w st e ≡ no → run (t ∷ ts) w st e ≡ stop not-parsed (t ∷ ts)
 unfolding run
 run_no t ts w st e i = rw (i, run) refl
 
@@ -77,13 +78,13 @@ stopped : List Sign → Out (List Sign) (List ℕ)
 stopped us = stop not-parsed us
 
 -- what all tokens come to where nothing fits
-stuck : (text fr : List ℕ) (r : Reading) (ts : List Sign) (e : List ℕ) → signs_at text r.at ≡ ts → run ts r.want (stack_in fr r.depth) e ≡ stop not-parsed ts
+stuck : (text : List ℕ) (fr : List Frame) (r : Reading) (ts : List Sign) (e : List ℕ) → signs_at text r.at ≡ ts → run ts r.want (stack_in fr r.depth) e ≡ stop not-parsed ts
     → run (signs_at text r.at) r.want (stack_in fr r.depth) e ≡ stop not-parsed (signs_at text r.at)
 unfolding stopped
 stuck text fr r ts e i h = ap (λ (us : List Sign). run us r.want (stack_in fr r.depth) e) i ∙ h ∙ ap stopped (sym i)
 
-module _ (text fr fr' f f' : List ℕ) (r : Reading) (next : ℕ) (k : Want → List ℕ → List ℕ → Next) (sign : Sign) (place : ℕ) where
-  token_turn : (s : Option Reading) → ((w : Want) (st e : List ℕ) → on_token sign w st e ≡ k w st e) → r.at < next → next ≤ length text → spots_at text r.at ≡ spot sign place ∷ spots_at text next
+module _ (text : List ℕ) (fr fr' : List Frame) (f f' : List ℕ) (r : Reading) (next : ℕ) (k : Want → List Frame → List ℕ → Next) (sign : Sign) (place : ℕ) where
+  token_turn : (s : Option Reading) → ((w : Want) (st : List Frame) (e : List ℕ) → on_token sign w st e ≡ k w st e) → r.at < next → next ≤ length text → spots_at text r.at ≡ spot sign place ∷ spots_at text next
       → StepOk k fr fr' f f' r next s → Fair text fr f r → TurnOk text fr fr' f f' r (turn_of s)
   unfolding StepOk TurnOk
   token_turn (Some q) same l m i h fair = record {
@@ -110,7 +111,7 @@ module _ (text fr fr' f f' : List ℕ) (r : Reading) (next : ℕ) (k : Want → 
 
 -- ---- the returns
 
-module _ (text fr fr' f f' : List ℕ) (r : Reading) (tk : Token) (s : Option Reading) (t : Turn) where
+module _ (text : List ℕ) (fr fr' : List Frame) (f f' : List ℕ) (r : Reading) (tk : Token) (s : Option Reading) (t : Turn) where
   turn_as : t ≡ turn_of s → TurnOk text fr fr' f f' r (turn_of s) → TurnOk text fr fr' f f' r t
   turn_as i h = subst (λ (x : Turn). TurnOk text fr fr' f f' r x) (sym i) h
 
@@ -122,7 +123,7 @@ module _ (text fr fr' f f' : List ℕ) (r : Reading) (tk : Token) (s : Option Re
   unfolding TokenOk on_token
   close_turn next i h o e fair = let z : Signed text r.at next closing = (rw e at o) in turn_as i (token_turn text fr fr' f f' r next on_closing closing (next - 1) s (λ w st l. refl) z.after z.within z.is h fair)
 
-module _ (text fr f f' : List ℕ) (r : Reading) (tk : Token) (s : Option Reading) (t : Turn) where
+module _ (text : List ℕ) (fr : List Frame) (f f' : List ℕ) (r : Reading) (tk : Token) (s : Option Reading) (t : Turn) where
   pub dot_turn : (next : ℕ) → t ≡ turn_of s → s ≡ dotted r.want r next → TokenOk text r.at tk → tk ≡ Dot next → Fair text fr f r → TurnOk text fr fr f f r t
   unfolding TokenOk on_token
   dot_turn next i j o e fair =
@@ -151,7 +152,7 @@ module _ (text fr f f' : List ℕ) (r : Reading) (tk : Token) (s : Option Readin
       (token_turn text fr fr f f' r (to + 1) (λ w. on_atom w b) (quoted b) (from - 1) s (λ w st l. refl) (omega arith) (omega (arith, z.within)) (z.is ∙ ap (λ (x : List ℕ). spot (quoted x) (from - 1) ∷ spots_at text (to + 1)) (sym y))
       (pass_step fr f f' (λ w. on_atom w b) r (to + 1) s h) fair)
 
-module _ (text fr f : List ℕ) (r : Reading) (tk : Token) where
+module _ (text : List ℕ) (fr : List Frame) (f : List ℕ) (r : Reading) (tk : Token) where
   pub wrong_turn : (i : ℕ) → TokenOk text r.at tk → tk ≡ Wrong i → TurnOk text fr fr f f r Fails
   unfolding TokenOk TurnOk on_token signs
   wrong_turn i o e = let z : Broken text r.at i = (rw e at o) in record {
@@ -178,7 +179,7 @@ module _ (text fr f : List ℕ) (r : Reading) (tk : Token) where
 
 -- ---- what the calls need
 
-module _ (text fr f : List ℕ) (r : Reading) (tk : Token) where
+module _ (text : List ℕ) (fr : List Frame) (f : List ℕ) (r : Reading) (tk : Token) where
   pub open_depth : (next : ℕ) → TokenOk text r.at tk → tk ≡ Open next → Fair text fr f r → r.depth < length fr
   unfolding TokenOk
   open_depth next o e fair =
@@ -212,14 +213,3 @@ module _ (text : List ℕ) (at from to : ℕ) (tk : Token) where
   pub quoted_fits : TokenOk text at tk → tk ≡ Quoted from to → length text ≤ text_limit → Fits w64 (to + 1)
   unfolding TokenOk
   quoted_fits o e h = let z : InQuotes text at from to = (rw e at o) in let b : to < length text = z.within in record { fits = omega arith }
-
-pub word_room : (text room : List ℕ) (from to : ℕ) → length text ≤ text_limit → room_least ≤ length room → length (between text from to) < length room
-word_room text room from to h k =
-    let a : length (take (to - from) (drop from text)) ≤ length (drop from text) = few (to - from) (drop from text) in
-    let b : length (drop from text) ≡ length text - from = length-drop from text in
-    omega arith
-  where
-    few : (n : ℕ) (l : List ℕ) → length (take n l) ≤ length l
-    few zero l = omega arith
-    few (suc n) [] = omega arith
-    few (suc n) (x ∷ l) = let z : length (take n l) ≤ length l = few n l in omega arith

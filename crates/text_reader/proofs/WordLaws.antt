@@ -75,6 +75,3 @@ module _ (p : Place) (w : List ℕ) (k : Maybe ℕ) {s s' : List ℕ} {r : Spell
       no_name p w (e ∙ ap operator l)
       ∙ ap (λ (o : Option (List ℕ)). or_else o (and_then (signed_word w) λ n. some (signed_bytes n))) y in
       subst (λ (o : Option (List ℕ)). Spelling o s s' r) (sym f) t
-
-pub hex_long : {w : List ℕ} {b : Bool} → Begins w b → b ≡ true → 3 ≤ length w
-hex_long g h = g.long h

@@ -6,6 +6,8 @@ use Rattle.meaning.specs.Meter.{Out, done, stop}
 use Rattle.notation.specs.declared.Place.TheVariants.{Operator}
 use Rattle.notation.specs.Texts.{head_in, place_after}
 use Rattle.notation.specs.Grammar.{Token}
+use Rattle.text_reader.specs.declared.machine.Frame.{Frame}
+use Rattle.text_reader.specs.declared.machine.Frame.TheVariants.{Outermost, AfterDot}
 use Rattle.text_reader.specs.declared.machine.Want.{Want}
 use Rattle.text_reader.specs.declared.machine.Want.TheVariants.{Whole, First, More, Last, Bracket, Nothing}
 use Rattle.text_reader.specs.declared.machine.Reading.{Reading}
@@ -19,12 +21,12 @@ use Rattle.text_reader.specs.Machine.{Next, on, no, back, pop, on_atom, on_word,
 
 -- ---- what a bracket opens, and what an atom is followed by
 
--- what a bracket opens: what is wanted in it, the number of what is wanted after it, and whether it is the left part of a pair
+-- what a bracket opens: what is wanted in it, what is wanted after it, and whether it is the left part of a pair
 abbrev pub opening_of : Want → Option Opened
-opening_of Whole = Some (record { within = First Operator; after = 0; pair = false })
+opening_of Whole = Some (record { within = First Operator; after = Outermost; pair = false })
 opening_of (First p) = Some (record { within = First (head_in p); after = back p; pair = true })
 opening_of (More p) = Some (record { within = First (head_in p); after = back p; pair = true })
-opening_of (Last p) = Some (record { within = First p; after = 3; pair = false })
+opening_of (Last p) = Some (record { within = First p; after = AfterDot; pair = false })
 opening_of Bracket = None
 opening_of Nothing = None
 
@@ -39,17 +41,17 @@ wanted_after Nothing one = None
 
 -- ---- steps
 
--- the numbers of the open lists, the innermost first
-unfoldable pub stack_in : List ℕ → ℕ → List ℕ
+-- the open lists, the innermost first
+unfoldable pub stack_in : List Frame → ℕ → List Frame
 stack_in fr zero = []
-stack_in fr (suc d) = get_or fr d 0 ∷ stack_in fr d
+stack_in fr (suc d) = get_or fr d Outermost ∷ stack_in fr d
 
 -- the definition comes to what q says, with e in the form
-pub data Leads (o : Next) (fr f : List ℕ) (q : Reading) : Type 0 where
+pub data Leads (o : Next) (fr : List Frame) (f : List ℕ) (q : Reading) : Type 0 where
   leads : (e : List ℕ) → Emitted e f q.grown → o ≡ on q.want (stack_in fr q.depth) e → Leads o fr f q
 
 -- the step k leads from r to q, and the next token stands at next
-pub record Moved (k : Want → List ℕ → List ℕ → Next) (fr fr' f f' : List ℕ) (r : Reading) (next : ℕ) (q : Reading) : Type 0 where
+pub record Moved (k : Want → List Frame → List ℕ → Next) (fr fr' : List Frame) (f f' : List ℕ) (r : Reading) (next : ℕ) (q : Reading) : Type 0 where
   pub at : q.at ≡ next
   pub deep : q.depth ≤ r.depth + 1
   pub within : Within q.grown
@@ -58,28 +60,28 @@ pub record Moved (k : Want → List ℕ → List ℕ → Next) (fr fr' f f' : Li
   pub so : (e : List ℕ) → Emitted e f r.grown → Leads (k r.want (stack_in fr r.depth) e) fr' f' q
 
 -- the step k leads nowhere
-pub record Stuck (k : Want → List ℕ → List ℕ → Next) (fr : List ℕ) (r : Reading) : Type 0 where
+pub record Stuck (k : Want → List Frame → List ℕ → Next) (fr : List Frame) (r : Reading) : Type 0 where
   pub so : (e : List ℕ) → k r.want (stack_in fr r.depth) e ≡ no
 
-unfoldable pub StepOk : (Want → List ℕ → List ℕ → Next) → List ℕ → List ℕ → List ℕ → List ℕ → Reading → ℕ → Option Reading → Type 0
+unfoldable pub StepOk : (Want → List Frame → List ℕ → Next) → List Frame → List Frame → List ℕ → List ℕ → Reading → ℕ → Option Reading → Type 0
 StepOk k fr fr' f f' r next (Some q) = Moved k fr fr' f f' r next q
 StepOk k fr fr' f f' r next None = Stuck k fr r
 
 -- a step that looks at no open list
-pub data LeadsOn (o : Next) (st f : List ℕ) (q : Reading) : Type 0 where
+pub data LeadsOn (o : Next) (st : List Frame) (f : List ℕ) (q : Reading) : Type 0 where
   leads_on : (e : List ℕ) → Emitted e f q.grown → o ≡ on q.want st e → LeadsOn o st f q
 
-pub record Passed (k : Want → List ℕ → List ℕ → Next) (f f' : List ℕ) (r : Reading) (next : ℕ) (q : Reading) : Type 0 where
+pub record Passed (k : Want → List Frame → List ℕ → Next) (f f' : List ℕ) (r : Reading) (next : ℕ) (q : Reading) : Type 0 where
   pub at : q.at ≡ next
   pub deep : q.depth ≡ r.depth
   pub within : Within q.grown
   pub long : length f' ≡ length f
-  pub so : (st e : List ℕ) → Emitted e f r.grown → LeadsOn (k r.want st e) st f' q
+  pub so : (st : List Frame) (e : List ℕ) → Emitted e f r.grown → LeadsOn (k r.want st e) st f' q
 
-pub record NotPassed (k : Want → List ℕ → List ℕ → Next) (r : Reading) : Type 0 where
-  pub so : (st e : List ℕ) → k r.want st e ≡ no
+pub record NotPassed (k : Want → List Frame → List ℕ → Next) (r : Reading) : Type 0 where
+  pub so : (st : List Frame) (e : List ℕ) → k r.want st e ≡ no
 
-unfoldable pub PassOk : (Want → List ℕ → List ℕ → Next) → List ℕ → List ℕ → Reading → ℕ → Option Reading → Type 0
+unfoldable pub PassOk : (Want → List Frame → List ℕ → Next) → List ℕ → List ℕ → Reading → ℕ → Option Reading → Type 0
 PassOk k f f' r next (Some q) = Passed k f f' r next q
 PassOk k f f' r next None = NotPassed k r
 
@@ -98,16 +100,16 @@ unfolding PassOk on_word
 WordOk v f f' r next s = PassOk (λ w. on_word w v) f f' r next s
 
 -- the innermost list is closed, with g in the form
-pub record Popped (fr : List ℕ) (depth : ℕ) (g : Option ℕ) (next : ℕ) (q : Reading) : Type 0 where
+pub record Popped (fr : List Frame) (depth : ℕ) (g : Option ℕ) (next : ℕ) (q : Reading) : Type 0 where
   pub at : q.at ≡ next
   pub deep : q.depth ≤ depth
   pub grown : q.grown ≡ g
   pub so : (e : List ℕ) → pop (stack_in fr depth) e ≡ on q.want (stack_in fr q.depth) e
 
-pub record NotPopped (fr : List ℕ) (depth : ℕ) : Type 0 where
+pub record NotPopped (fr : List Frame) (depth : ℕ) : Type 0 where
   pub so : (e : List ℕ) → pop (stack_in fr depth) e ≡ no
 
-unfoldable pub PopOk : List ℕ → ℕ → Option ℕ → ℕ → Option Reading → Type 0
+unfoldable pub PopOk : List Frame → ℕ → Option ℕ → ℕ → Option Reading → Type 0
 PopOk fr depth g next (Some q) = Popped fr depth g next q
 PopOk fr depth g next None = NotPopped fr depth
 
@@ -137,11 +139,11 @@ turn_of (Some q) = Goes q
 turn_of None = Fails
 
 -- what all tokens from r on come to, with e in the form
-abbrev pub from_here : List ℕ → List ℕ → Reading → List ℕ → Out (List Token) (List ℕ)
+abbrev pub from_here : List ℕ → List Frame → Reading → List ℕ → Out (List Token) (List ℕ)
 from_here text fr r e = run (signs_at text r.at) r.want (stack_in fr r.depth) e
 
 -- the frames have a place for every list that can still be opened, and the form room for a form
-pub record Fair (text fr f : List ℕ) (r : Reading) : Type 0 where
+pub record Fair (text : List ℕ) (fr : List Frame) (f : List ℕ) (r : Reading) : Type 0 where
   pub at : r.at ≤ length text
   pub deep : r.depth ≤ r.at
   pub short : length text ≤ length fr
@@ -149,24 +151,24 @@ pub record Fair (text fr f : List ℕ) (r : Reading) : Type 0 where
   pub within : Within r.grown
 
 -- o is what is come to from q on
-pub data Comes (o : Out (List Token) (List ℕ)) (text fr f : List ℕ) (q : Reading) : Type 0 where
+pub data Comes (o : Out (List Token) (List ℕ)) (text : List ℕ) (fr : List Frame) (f : List ℕ) (q : Reading) : Type 0 where
   comes : (e : List ℕ) → Emitted e f q.grown → o ≡ from_here text fr q e → Comes o text fr f q
 
-pub record GoesOn (text fr fr' f f' : List ℕ) (r q : Reading) : Type 0 where
+pub record GoesOn (text : List ℕ) (fr fr' : List Frame) (f f' : List ℕ) (r q : Reading) : Type 0 where
   pub fair : Fair text fr' f' q
   pub later : r.at < q.at
   pub one : OneToken text r.at q.at
   pub so : (e : List ℕ) → Emitted e f r.grown → Comes (from_here text fr r e) text fr' f' q
 
 -- the text ends well
-pub record EndsWell (text fr f f' : List ℕ) (r : Reading) (g : Option ℕ) : Type 0 where
+pub record EndsWell (text : List ℕ) (fr : List Frame) (f f' : List ℕ) (r : Reading) (g : Option ℕ) : Type 0 where
   pub so : (e : List ℕ) → Emitted e f r.grown → (from_here text fr r e ≡ done e []) × Emitted e f' g
 
 -- the next token, or the end, may not stand there
-pub record NoText (text fr : List ℕ) (r : Reading) : Type 0 where
+pub record NoText (text : List ℕ) (fr : List Frame) (r : Reading) : Type 0 where
   pub so : (e : List ℕ) → from_here text fr r e ≡ stop not-parsed (signs_at text r.at)
 
-unfoldable pub TurnOk : List ℕ → List ℕ → List ℕ → List ℕ → List ℕ → Reading → Turn → Type 0
+unfoldable pub TurnOk : List ℕ → List Frame → List Frame → List ℕ → List ℕ → Reading → Turn → Type 0
 TurnOk text fr fr' f f' r (Goes q) = GoesOn text fr fr' f f' r q
 TurnOk text fr fr' f f' r (Done g) = EndsWell text fr f f' r g
 TurnOk text fr fr' f f' r Fails = NoText text fr r

@@ -4,7 +4,7 @@ ghost use Rattle.meaning.specs.Limits.{room_least, form_limit};
 ghost use Rattle.notation.specs.Texts.{text_limit};
 ghost use Rattle.text_reader.specs.Converts.{begun, EndingOk, ConvertedOk, FaultOk};
 
-use crate::machine::{Reading, Turn, Want, take_token};
+use crate::machine::{Frame, Reading, Turn, Want, take_token};
 use crate::scan::next_place;
 use refusals::Refusal;
 
@@ -39,7 +39,7 @@ fn start() -> Reading
 // Token by token: how many bytes the form has (none where it is too long), where nothing more is wanted at the end; or the place from which on the next token may not stand.
 fn take_tokens(
     text: &[u8],
-    frames: &mut [u8],
+    frames: &mut [Frame],
     room: &mut [u8],
     form: &mut [u8],
 ) -> Result<Option<usize>, usize>
@@ -67,7 +67,7 @@ fn convert(text: &[u8], room: &mut [u8], form: &mut [u8]) -> Result<Option<usize
     requires { (length text.now ≤ text_limit) × (room_least ≤ length room.old) × (form_limit ≤ length form.old) }
     ensures { EndingOk text.now form.new result }
 {
-    let mut frames = [0u8; 32768];
+    let mut frames = [Frame::Outermost; 32768];
     take_tokens(text, &mut frames, room, form)
 }
 

@@ -35,6 +35,7 @@ fn emit_bytes(form: &mut [u8], g: Option<usize>, b: &[u8]) -> Option<usize>
 }
 
 // Whether a body needs a prefix.
+#[tactic(auto, unfolding(crate::specs::Forms::prefixed, meaning::specs::Form::write_atom, meaning::specs::Form::write_length))]
 fn needs_prefix(b: &[u8]) -> bool
     ensures { write_atom b.now ≡ prefixed result b.now }
 {
@@ -45,6 +46,7 @@ fn needs_prefix(b: &[u8]) -> bool
 }
 
 // The prefix of a body of n bytes.
+#[tactic(auto, unfolding(meaning::specs::Form::write_length), using(crate::proofs::EmitLaws::then_emits))]
 fn emit_length(form: &mut [u8], g: Option<usize>, n: usize) -> Option<usize>
     requires { (8192 ≤ length form.old) × Within g × (n < 8192) }
     ensures { Emits (write_length n) form.old form.new g result }

@@ -24,6 +24,19 @@ pub(crate) enum Want {
     Nothing,
 }
 
+// An open list, by what is wanted once it is closed: nothing; a part in code or data after it; or the bracket after it, where it is the
+// part after a dot.
+#[derive(Clone, Copy)]
+pub(crate) enum Frame {
+    Outermost,
+    BeforeCode,
+    BeforeData,
+    AfterDot,
+}
+
+// As many are kept as a text may have bytes: one byte each.
+const _: () = prove!(size_of::<Frame>() == 1);
+
 // Between two tokens: where the next stands, what is wanted, how many lists are open, how many bytes stand in the form so far (or none is
 // said: more would have to stand than may).
 #[derive(Clone, Copy)]
@@ -42,11 +55,11 @@ pub(crate) enum Turn {
     Fails,
 }
 
-// What a bracket opens: what is wanted in it, what is wanted after it (as a number), and whether it is the left part of a pair.
+// What a bracket opens: what is wanted in it, what is wanted after it, and whether it is the left part of a pair.
 #[derive(Clone, Copy)]
 pub(crate) struct Opened {
     pub within: Want,
-    pub after: u8,
+    pub after: Frame,
     pub pair: bool,
 }
 
@@ -58,24 +71,25 @@ pub(crate) struct Wanted {
 }
 
 // What is wanted once a list is closed.
-fn want_of(k: u8) -> Want
+#[tactic(auto, unfolding(crate::specs::Machine::want_of))]
+fn want_of(k: Frame) -> Want
     ensures { result ≡ want_of k }
 {
     match k {
-        0 => Want::Nothing,
-        1 => Want::More(Place::Code),
-        2 => Want::More(Place::Data),
-        _ => Want::Bracket,
+        Frame::Outermost => Want::Nothing,
+        Frame::BeforeCode => Want::More(Place::Code),
+        Frame::BeforeData => Want::More(Place::Data),
+        Frame::AfterDot => Want::Bracket,
     }
 }
 
-// The number of what is wanted after a part at p that is a list.
-fn back(p: Place) -> u8
+// A part at p that is a list.
+fn back(p: Place) -> Frame
     ensures { result ≡ back p }
 {
     match p {
-        Place::Operator | Place::Code => 1,
-        Place::Data => 2,
+        Place::Operator | Place::Code => Frame::BeforeCode,
+        Place::Data => Frame::BeforeData,
     }
 }
 
@@ -85,7 +99,7 @@ fn opened_in(w: Want) -> Option<Opened>
     match w {
         Want::Whole => Some(Opened {
             within: Want::First(Place::Operator),
-            after: 0,
+            after: Frame::Outermost,
             pair: false,
         }),
         Want::First(p) | Want::More(p) => Some(Opened {
@@ -95,14 +109,14 @@ fn opened_in(w: Want) -> Option<Opened>
         }),
         Want::Last(p) => Some(Opened {
             within: Want::First(p),
-            after: 3,
+            after: Frame::AfterDot,
             pair: false,
         }),
         Want::Bracket | Want::Nothing => None,
     }
 }
 
-fn on_open(frames: &mut [u8], form: &mut [u8], r: Reading, next: usize) -> Option<Reading>
+fn on_open(frames: &mut [Frame], form: &mut [u8], r: Reading, next: usize) -> Option<Reading>
     requires { (r.depth < length frames.old) × (r.depth < 65536) × (8192 ≤ length form.old) × Within r.grown }
     ensures { StepOk on_opening frames.old frames.new form.old form.new r next result }
 {
@@ -117,7 +131,8 @@ fn on_open(frames: &mut [u8], form: &mut [u8], r: Reading, next: usize) -> Optio
 }
 
 // The innermost list is closed, with g in the form.
-fn pop(frames: &[u8], depth: usize, grown: Option<usize>, next: usize) -> Option<Reading>
+#[tactic(auto, unfolding(crate::specs::Turns::PopOk, crate::specs::Machine::pop, crate::specs::Turns::stack_in))]
+fn pop(frames: &[Frame], depth: usize, grown: Option<usize>, next: usize) -> Option<Reading>
     requires { depth ≤ length frames.now }
     ensures { PopOk frames.now depth grown next result }
 {
@@ -132,7 +147,7 @@ fn pop(frames: &[u8], depth: usize, grown: Option<usize>, next: usize) -> Option
     })
 }
 
-fn on_close(frames: &[u8], form: &mut [u8], r: Reading, next: usize) -> Option<Reading>
+fn on_close(frames: &[Frame], form: &mut [u8], r: Reading, next: usize) -> Option<Reading>
     requires { (r.depth ≤ length frames.now) × (8192 ≤ length form.old) × Within r.grown }
     ensures { StepOk on_closing frames.now frames.now form.old form.new r next result }
 {
@@ -258,7 +273,7 @@ fn turned(s: Option<Reading>) -> Turn
 // The next token of the text, or its end.
 pub(crate) fn take_token(
     text: &[u8],
-    frames: &mut [u8],
+    frames: &mut [Frame],
     room: &mut [u8],
     form: &mut [u8],
     r: Reading,

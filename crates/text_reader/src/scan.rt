@@ -33,6 +33,7 @@ fn kind_of(c: u8) -> Kind
 }
 
 // Whether a byte belongs to a word.
+#[tactic(auto, unfolding(crate::specs::Tokens::is_plain))]
 fn is_plain(c: u8) -> bool
     ensures { result ≡ is_plain (kind_of c) }
 {
@@ -40,6 +41,7 @@ fn is_plain(c: u8) -> bool
 }
 
 // Whether a byte only separates.
+#[tactic(auto, unfolding(crate::specs::Tokens::is_blank))]
 fn is_blank(c: u8) -> bool
     ensures { result ≡ is_blank (kind_of c) }
 {

@@ -20,6 +20,7 @@ fn operator_of(c: u8) -> Option<u8>
 }
 
 // The number of the operator that a word names at a place.
+#[tactic(auto, unfolding(notation::specs::Words::named, notation::specs::Words::and_then, crate::specs::Digits::named_by, crate::specs::Digits::operator))]
 fn named(p: Place, w: &[u8]) -> Option<u8>
     ensures { named p w.now ≡ operator result }
 {
@@ -49,6 +50,7 @@ fn begins_hex(w: &[u8]) -> bool
 }
 
 // Two digits as a byte.
+#[tactic(auto, unfolding(crate::specs::Digits::hex_pair, crate::specs::Digits::found, crate::specs::Digits::Small, notation::specs::Words::and_then))]
 fn hex_pair(c: u8, d: u8) -> Option<u8>
     ensures { hex_pair c d ≡ found result }
 {

@@ -41,18 +41,6 @@ unfolding hex
 spell_starts s d h k = record { within = omega arith; fits = h; few = k; long = refl; is = refl }
 
 module _ (s d₀ d : List ℕ) (i : ℕ) (c : Spelling s d₀ d i) (h : i < length s) where
-  pub spell_first : 2 * i < length d
-  spell_first = omega (arith, c.fits, c.long)
-
-  pub spell_second : (x : ℕ) → 2 * i + 1 < length (set d (2 * i) x)
-  spell_second x = omega (arith, c.fits, c.long, length-set d (2 * i) x)
-
-  pub spell_double : Fits w64 (2 * i)
-  spell_double = record { fits = omega (arith, c.few) }
-
-  pub spell_next : Fits w64 (2 * i + 1)
-  spell_next = record { fits = omega (arith, c.few) }
-
   front : length (hex (take i s)) ≡ 2 * i
   front = hex_length (take i s) ∙ ap (λ (k : ℕ). 2 * k) (length-take-le i s (omega arith))
 
@@ -83,13 +71,3 @@ module _ (s d₀ d : List ℕ) (i : ℕ) (c : Spelling s d₀ d i) (h : i < leng
     where
       spelled : (x y : ℕ) → y ≡ hex_digit (get_or s i 0 % 16) → x ≡ hex_digit (get_or s i 0 / 16) → hex (take i s) ++ (x ∷ y ∷ []) ≡ hex (take (i + 1) s)
       spelled x y ey ex = rw (ey, ex, add-one, take-suc s i 0 h) (sym (hex_snoc (take i s) (get_or s i 0)))
-
-module _ (s d₀ d : List ℕ) (i : ℕ) (c : Spelling s d₀ d i) where
-  pub spell_ends : length s ≤ i → Wrote (hex s) (2 * length s) d₀ d
-  spell_ends h =
-      let e : i ≡ length s = omega (arith, c.within) in
-      let z : length (hex s) ≡ 2 * length s = hex_length s in
-      record { count = sym z; bytes = c.is ∙ rw (e, take-length s, z) }
-
-  pub spell_long : length d ≡ length d₀
-  spell_long = c.long

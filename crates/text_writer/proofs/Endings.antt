@@ -93,36 +93,6 @@ text_most p b = whether (length b) 0
 pub last_small : (p : Place) (b : List ℕ) (k : ℕ) → k ≡ length (atom_text p b) → length b ≤ 256 → Fits w64 (4 + k)
 last_small p b k e l = record { fits = omega (arith, text_most p b) }
 
--- ---- an atom without a name
-
-module _ (b out : List ℕ) (h : 2 + 2 * length b ≤ length out) where
-  two : List ℕ
-  two = set (set out 0 0x30) 1 0x78
-
-  two_length : length two ≡ length out
-  unfolding two
-  two_length = length-set (set out 0 0x30) 1 0x78 ∙ length-set out 0 0x30
-
-  pub bytes_second : 1 < length (set out 0 0x30)
-  bytes_second = omega (arith, length-set out 0 0x30)
-
-  pub bytes_start : 2 ≤ length (set (set out 0 0x30) 1 0x78)
-  unfolding two
-  bytes_start = omega (arith, two_length)
-
-  pub bytes_room : 2 * length b ≤ length (lent (set (set out 0 0x30) 1 0x78) 2)
-  unfolding two
-  bytes_room = omega (arith, lent_length two 2, two_length)
-
-  module _ (ys : List ℕ) where
-    pub bytes_wrote : Wrote (hex b) (2 * length b) (lent (set (set out 0 0x30) 1 0x78) 2) ys
-        → Wrote (0x30 ∷ 0x78 ∷ hex b) (2 + 2 * length b) out (back (set (set out 0 0x30) 1 0x78) 2 ys)
-    bytes_wrote d = then_wrote (0x30 ∷ 0x78 ∷ []) (hex b) out (set (set out 0 0x30) 1 0x78) ys 2 (2 * length b) (two_set out 0x30 0x78 (omega arith)) d (omega (arith, hex_length b))
-
-    pub bytes_same : length ys ≡ length (lent (set (set out 0 0x30) 1 0x78) 2) → length (back (set (set out 0 0x30) 1 0x78) 2 ys) ≡ length out
-    unfolding two
-    bytes_same e = back_length two 2 ys e ∙ two_length
-
 -- ---- an atom
 
 module _ (p : Place) (b out : List ℕ) (fits : length (atom_text p b) ≤ length out) where
@@ -195,46 +165,8 @@ module _ (p : Place) (b out : List ℕ) (fits : length (text_rest (atom b) p) �
       dotted_long : length (back (set (set (set out 0 0x20) 1 0x2e) 2 0x20) 3 ys) ≡ length out
       dotted_long = wrote_length (0x20 ∷ 0x2e ∷ 0x20 ∷ atom_text p b) out (back (set (set (set out 0 0x20) 1 0x2e) 2 0x20) 3 ys) (3 + k) dotted (omega (arith, size))
 
-      pub end_small : length out < 2 ^ 64 → Fits w64 (3 + k)
-      end_small g = record { fits = omega (arith, size, d.count) }
-
       pub end_within : 3 + k < length (back (set (set (set out 0 0x20) 1 0x2e) 2 0x20) 3 ys)
       end_within = omega (arith, size, d.count, dotted_long)
 
-      pub end_sum : length out < 2 ^ 64 → Fits w64 (3 + k + 1)
-      end_sum g = record { fits = omega (arith, size, d.count) }
-
       pub last_wrote : Wrote (text_rest (atom b) p) (3 + k + 1) out (set (back (set (set (set out 0 0x20) 1 0x2e) 2 0x20) 3 ys) (3 + k) 0x29)
       last_wrote = rw (last_some p b n) (end_set (0x20 ∷ 0x2e ∷ 0x20 ∷ atom_text p b) out (back (set (set (set out 0 0x20) 1 0x2e) 2 0x20) 3 ys) (3 + k) 0x29 dotted (omega (arith, size, d.count)))
-
-      pub last_same : length (set (back (set (set (set out 0 0x20) 1 0x2e) 2 0x20) 3 ys) (3 + k) 0x29) ≡ length out
-      last_same = length-set (back (set (set (set out 0 0x20) 1 0x2e) 2 0x20) 3 ys) (3 + k) 0x29 ∙ dotted_long
-
--- ---- either
-
-module _ (p : Place) (rest : Bool) (b : List ℕ) where
-  pub end_rest : (k : ℕ) → k ≡ length (text_rest (atom b) p) → rest ≡ true → k ≡ length (part_text rest (atom b) p)
-  unfolding part_text
-  end_rest k e h = rw h e
-
-  pub end_alone : (k : ℕ) → k ≡ length (atom_text p b) → rest ≡ false → k ≡ length (part_text rest (atom b) p)
-  unfolding part_text text_at
-  end_alone k e h = rw h e
-
-  module _ (out : List ℕ) (fits : length (part_text rest (atom b) p) ≤ length out) where
-    pub rest_fits : rest ≡ true → length (text_rest (atom b) p) ≤ length out
-    unfolding part_text
-    rest_fits h = rw h at fits
-
-    pub alone_fits : rest ≡ false → length (atom_text p b) ≤ length out
-    unfolding part_text text_at
-    alone_fits h = rw h at fits
-
-  module _ (out out₁ : List ℕ) (k : ℕ) where
-    pub rest_wrote : Wrote (text_rest (atom b) p) k out out₁ → rest ≡ true → Wrote (part_text rest (atom b) p) k out out₁
-    unfolding part_text
-    rest_wrote d h = rw h d
-
-    pub alone_wrote : Wrote (atom_text p b) k out out₁ → rest ≡ false → Wrote (part_text rest (atom b) p) k out out₁
-    unfolding part_text text_at
-    alone_wrote d h = rw h d

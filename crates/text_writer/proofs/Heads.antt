@@ -28,15 +28,3 @@ one_pair f s n l r q ep eq = rw (tree_pair f s n l r (sym eq ∙ ep))
 pub one_atom : (f s b : List ℕ) (n : ℕ) (q : Cell) (u : Bool) → u ≡ is_byte 1 b → q ≡ Atom → q ≡ cell_at s n → b ≡ bytes_at f s n → u ≡ is_one (tree_at f s n)
 unfolding is_one
 one_atom f s b n q u e ep eq eb = rw (tree_atom f s n (sym eq ∙ ep), ← eb) e
-
--- ---- what follows a part
-
-module _ (t : Tree) (p : Place) where
-  pub after_head : (u : Bool) (q : Place) → q ≡ place_after p u → u ≡ is_one t → p ≡ Operator → q ≡ after p t
-  unfolding after
-  after_head u q e i h = e ∙ rw (h, i) (on_bool (is_one t) (λ z. rw (z, after) refl) (λ z. rw (z, after) refl))
-
-  pub after_else : (p ≡ Code) ⊎ (p ≡ Data) → p ≡ after p t
-  unfolding after
-  after_else (inl i) = rw i
-  after_else (inr i) = rw i

@@ -159,9 +159,6 @@ module _ (f s out : List ℕ) (n l r x : ℕ) (p q o : Place) (rest : Bool) (c :
     left_long : length (back (set out 0 x) 1 ys) ≡ length out
     left_long = wrote_length (x ∷ part_text false (tree_at f s l) q) out (back (set out 0 x) 1 ys) (1 + k) left_wrote (omega (arith, size))
 
-    pub at_small : length out < 2 ^ 64 → Fits w64 (1 + k)
-    at_small g = record { fits = omega (arith, size, d.count) }
-
     pub at_within : 1 + k ≤ length (back (set out 0 x) 1 ys)
     at_within = omega (arith, size, left_long, d.count)
 
@@ -174,12 +171,6 @@ module _ (f s out : List ℕ) (n l r x : ℕ) (p q o : Place) (rest : Bool) (c :
 
       pub write_pair : Wrote (part_text rest (tree_at f s n) p) (1 + k + m) out (back (back (set out 0 x) 1 ys) (1 + k) zs)
       write_pair = rw whole (then_wrote (x ∷ part_text false (tree_at f s l) q) (part_text true (tree_at f s r) o) out (back (set out 0 x) 1 ys) zs (1 + k) m left_wrote e (omega (arith, size)))
-
-      pub sum_small : length out < 2 ^ 64 → Fits w64 (1 + k + m)
-      sum_small g = record { fits = omega (arith, size, d.count, e.count) }
-
-      pub pair_same : length zs ≡ length (lent (back (set out 0 x) 1 ys) (1 + k)) → length (back (back (set out 0 x) 1 ys) (1 + k) zs) ≡ length out
-      pair_same g = back_length (back (set out 0 x) 1 ys) (1 + k) zs g ∙ left_long
 
 -- ---- delivered
 

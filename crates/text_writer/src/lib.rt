@@ -46,6 +46,7 @@ fn one_at<'a>(form: &'a [u8], room: &'a [u8], n: usize) -> bool
 }
 
 // The place of what follows node n, which stands at p.
+#[tactic(auto, unfolding(notation::specs::Texts::after))]
 fn after<'a>(form: &'a [u8], room: &'a [u8], n: usize, p: Place) -> Place
     requires { Room room.now n }
     ensures { result ≡ after p (tree_in form.now room.now n) }
@@ -59,6 +60,7 @@ fn after<'a>(form: &'a [u8], room: &'a [u8], n: usize, p: Place) -> Place
 // ---- atoms
 
 // The name of an operator.
+#[tactic(auto, unfolding(notation::specs::Words::name_of))]
 fn name(k: u8) -> u8
     requires { (1 ≤ k) × (k ≤ 9) }
     ensures { name_of k ≡ some result }
@@ -180,6 +182,7 @@ fn put_last(p: Place, b: &[u8], out: &mut [u8]) -> usize
 }
 
 // An atom, as an expression or as the rest of a list.
+#[tactic(auto, unfolding(crate::specs::Parts::part_text, notation::specs::Texts::text_at))]
 fn put_end(p: Place, rest: bool, b: &[u8], out: &mut [u8]) -> usize
     requires { (length b.now ≤ atom_most) × (length (part_text rest (atom b.now) p) ≤ length out.old) }
     ensures { Wrote (part_text rest (atom b.now) p) result out.old out.new }

@@ -18,9 +18,6 @@ slice_bounds-write_text-start t c = search laws.after_first
 pub write_text-at-requires : goal.write_text-at-requires
 write_text-at-requires t c = (search parts.falls_left, (search parts.writable_left, search laws.left_fits))
 
-pub overflow_add-at : goal.overflow_add-at
-overflow_add-at t c = search laws.at_small
-
 pub slice_bounds-write_text-count-in-Pair : goal.slice_bounds-write_text-count-in-Pair
 slice_bounds-write_text-count-in-Pair t c = search laws.at_within
 
@@ -30,14 +27,8 @@ slice_bounds-write_text-start-in-Pair t c = search laws.at_within
 pub write_text-requires : goal.write_text-requires
 write_text-requires t c = (search parts.falls_right, (search parts.writable_right, search laws.right_fits))
 
-pub overflow_add-result : goal.overflow_add-result
-overflow_add-result t c = search laws.sum_small
-
 pub put_end-requires : goal.put_end-requires
 put_end-requires t c = (search laws.atom_few, search laws.atom_fits)
-
-pub shape_of-out-in-Pair : goal.shape_of-out-in-Pair
-shape_of-out-in-Pair t c = search laws.pair_same
 
 pub returns-in-Pair : goal.returns-in-Pair
 returns-in-Pair t c = search laws.write_pair

@@ -28,17 +28,8 @@ slice_bounds-put_atom-start c = search (laws.dot_start, names.some_bytes)
 pub put_atom-end-requires : goal.put_atom-end-requires
 put_atom-end-requires c = (search rules, search (laws.dot_fits, names.some_bytes))
 
-pub overflow_add-end : goal.overflow_add-end
-overflow_add-end c = search (laws.end_small, names.some_bytes)
-
 pub bounds-out-end : goal.bounds-out-end
 bounds-out-end c = search (laws.end_within, names.some_bytes)
-
-pub overflow_add-result : goal.overflow_add-result
-overflow_add-result c = search (laws.end_sum, names.some_bytes)
-
-pub shape_of-out : goal.shape_of-out
-shape_of-out c = search (laws.last_same, names.some_bytes)
 
 pub returns : goal.returns
 returns c = search (laws.last_wrote, names.some_bytes)

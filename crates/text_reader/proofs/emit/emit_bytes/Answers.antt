@@ -5,9 +5,6 @@ use Rattle.text_reader.proofs.emit.emit_bytes.Goals as goal
 pub returns-in_err-at : goal.returns-in_err-at
 returns-in_err-at c = search (laws.still_over, c.in_err-at.was)
 
-pub overflow_sub-at : goal.overflow_sub-at
-overflow_sub-at c = search (laws.within_limit, c.in_ok-at.was)
-
 pub returns-then-at-b : goal.returns-then-at-b
 returns-then-at-b c = search (laws.now_over, c.in_ok-at.was)
 

@@ -15,9 +15,6 @@ slice_bounds-on_word-start c = search turns.word_upto
 pub slice_bounds-on_word-end : goal.slice_bounds-on_word-end
 slice_bounds-on_word-end c = search turns.word_within
 
-pub on_word-requires : goal.on_word-requires
-on_word-requires c = search (turns.word_room, rules)
-
 pub slice_bounds-on_atom-count : goal.slice_bounds-on_atom-count
 slice_bounds-on_atom-count c = search turns.quoted_upto
 

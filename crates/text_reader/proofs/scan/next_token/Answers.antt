@@ -3,9 +3,6 @@ use Rattle.text_reader.proofs.ScanLaws as laws
 use borrow.Author.Rules.{rules}
 use Rattle.text_reader.proofs.scan.next_token.Goals as goal
 
-pub token_here-requires : goal.token_here-requires
-token_here-requires c = (search rules, search laws.no_blank)
-
 pub returns-then-i-text : goal.returns-then-i-text
 returns-then-i-text c = search laws.then_token
 

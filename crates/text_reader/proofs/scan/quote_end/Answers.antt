@@ -2,9 +2,6 @@
 use Rattle.text_reader.proofs.ScanLaws as laws
 use Rattle.text_reader.proofs.scan.quote_end.Goals as goal
 
-pub loop-i-init : goal.loop-i-init
-loop-i-init c = search laws.quote_starts
-
 pub loop-i-preserved : goal.loop-i-preserved
 loop-i-preserved c = search laws.quote_turn
 

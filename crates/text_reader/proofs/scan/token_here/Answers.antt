@@ -3,9 +3,6 @@ use Rattle.text_reader.proofs.ScanLaws as laws
 use borrow.Author.Rules.{rules}
 use Rattle.text_reader.proofs.scan.token_here.Goals as goal
 
-pub quoted_from-requires : goal.quoted_from-requires
-quoted_from-requires c = (search rules, search laws.here_quotes)
-
 pub word_from-requires : goal.word_from-requires
 word_from-requires c = search laws.here_word
 

@@ -2,9 +2,6 @@
 use Rattle.text_reader.proofs.ScanLaws as laws
 use Rattle.text_reader.proofs.scan.word_end.Goals as goal
 
-pub loop-i-init : goal.loop-i-init
-loop-i-init c = search laws.word_starts
-
 pub returns-then-not-is_plain : goal.returns-then-not-is_plain
 returns-then-not-is_plain c = search laws.word_found
 

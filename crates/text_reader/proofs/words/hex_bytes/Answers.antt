@@ -8,23 +8,11 @@ returns-then-w-eq1 c = search laws.odd_spells
 pub loop-i-init : goal.loop-i-init
 loop-i-init c = search laws.hex_starts
 
-pub bounds-w-i-in-loop-i : goal.bounds-w-i-in-loop-i
-bounds-w-i-in-loop-i c = search laws.hex_second
-
 pub returns-in_default : goal.returns-in_default
 returns-in_default c = search laws.hex_wrong
 
-pub shape_of-room-in_default : goal.shape_of-room-in_default
-shape_of-room-in_default c = search laws.hex_same
-
-pub bounds-room-from : goal.bounds-room-from
-bounds-room-from c = search laws.hex_fits
-
 pub loop-i-preserved : goal.loop-i-preserved
 loop-i-preserved c = search laws.hex_turn
-
-pub shape_of-room : goal.shape_of-room
-shape_of-room c = search laws.hex_same
 
 pub returns : goal.returns
 returns c = search laws.hex_all

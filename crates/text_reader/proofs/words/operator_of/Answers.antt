@@ -2,9 +2,6 @@
 use Rattle.text_reader.proofs.NameLaws as laws
 use Rattle.text_reader.proofs.words.operator_of.Goals as goal
 
-pub loop-i-init : goal.loop-i-init
-loop-i-init c = search laws.seek_starts
-
 pub loop-i-preserved : goal.loop-i-preserved
 loop-i-preserved c = search laws.seek_turn
 

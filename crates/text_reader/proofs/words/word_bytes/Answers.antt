@@ -6,9 +6,6 @@ use Rattle.text_reader.proofs.words.word_bytes.Goals as goal
 pub returns-in-Some : goal.returns-in-Some
 returns-in-Some c = search laws.word_name
 
-pub hex_bytes-requires : goal.hex_bytes-requires
-hex_bytes-requires c = (search laws.hex_long, search rules)
-
 pub returns-then-begins_hex : goal.returns-then-begins_hex
 returns-then-begins_hex c = search laws.word_hex
 

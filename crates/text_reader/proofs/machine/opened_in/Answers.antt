@@ -1,9 +1,0 @@
--- opened_in: an answer for each need; what carries weight stands in the laws.
-use Rattle.text_reader.proofs.MachineLaws as laws
-use Rattle.text_reader.proofs.machine.opened_in.Goals as goal
-
-pub returns-in-First : goal.returns-in-First
-returns-in-First c = search laws.opens_part
-
-pub returns-in-Bracket : goal.returns-in-Bracket
-returns-in-Bracket c = search laws.opens_none
