@@ -3,6 +3,8 @@
 // output, which was filled with ee.
 #![tactic(auto)]
 
+ghost use Rattle.std.specs.Prelude.{◌≤◌};
+
 use optimiser::Answer;
 
 // Standard output.
@@ -22,42 +24,24 @@ fn say_byte(x: u8) {
 
 // The bytes, and `-` where there are none.
 fn show(b: &[u8]) {
-    if b.len() == 0 {
+    if b.is_empty() {
         say(b"-");
     }
-    let mut i: usize = 0;
-    while i < b.len() {
-        say_byte(b[i]);
-        i += 1;
-    }
-}
-
-fn fill(s: &mut [u8], x: u8) {
-    let mut i: usize = 0;
-    while i < s.len() {
-        s[i] = x;
-        i += 1;
+    for x in b {
+        say_byte(*x);
     }
 }
 
 // How many bytes are not 0.
 fn count(s: &[u8]) -> usize {
-    let mut n: usize = 0;
-    let mut i: usize = 0;
-    while i < s.len() {
-        if s[i] != 0 {
-            n += 1;
-        }
-        i += 1;
-    }
-    n
+    s.iter().filter(|x| **x != 0).count()
 }
 
 fn say_answer(a: Answer) {
     match a {
         Answer::Refused(e) => {
             say(b"no ");
-            say_number(refusals::number_of(e) as usize);
+            say_number(usize::from(refusals::number_of(e)));
         }
         Answer::Answered(r) => {
             say(b"ok ");
@@ -66,11 +50,7 @@ fn say_answer(a: Answer) {
             say_number(r.passes);
             say(b" ");
             say_number(r.units);
-            if r.mark {
-                say(b" 1");
-            } else {
-                say(b" 0");
-            }
+            say(if r.mark { b" 1" } else { b" 0" });
         }
     }
 }
@@ -95,8 +75,8 @@ fn say_left<'a>(room: &'a [u8], out: &'a [u8]) {
 
 // The room and the output are filled, lent, and looked at.
 fn lend(form: &[u8], room: &mut [u8], dirt: u8, out: &mut [u8]) {
-    fill(room, dirt);
-    fill(out, 0xee);
+    room.fill(dirt);
+    out.fill(0xee);
     say_lent(room.len(), dirt, out.len());
     say_answer(optimiser::optimise(form, room, out));
     say_left(room, out);
@@ -104,23 +84,17 @@ fn lend(form: &[u8], room: &mut [u8], dirt: u8, out: &mut [u8]) {
 
 // ---- rooms
 
-fn no_room(form: &[u8], out: &mut [u8]) {
-    let mut room = [0u8; 0];
-    lend(form, &mut room, 0, out);
-}
+const SHORT: usize = 65535;
 
-fn short_room(form: &[u8], dirt: u8, out: &mut [u8]) {
-    let mut room = [0u8; 65535];
-    lend(form, &mut room, dirt, out);
-}
+const EXACT: usize = 65536;
 
-fn exact_room(form: &[u8], dirt: u8, out: &mut [u8]) {
-    let mut room = [0u8; 65536];
-    lend(form, &mut room, dirt, out);
-}
+const LONGER: usize = 70000;
 
-fn longer_room(form: &[u8], dirt: u8, out: &mut [u8]) {
-    let mut room = [0u8; 70000];
+// In a room of N bytes.
+fn in_room<const N: usize>(form: &[u8], dirt: u8, out: &mut [u8])
+    requires { N ≤ 70000 }
+{
+    let mut room = [0u8; N];
     lend(form, &mut room, dirt, out);
 }
 
@@ -129,25 +103,25 @@ fn longer_room(form: &[u8], dirt: u8, out: &mut [u8]) {
 // (f 1), which becomes 2: one byte
 fn one_byte(form: &[u8]) {
     let mut out = [0u8; 2];
-    no_room(form, &mut out);
-    short_room(form, 0, &mut out);
-    short_room(form, 0x55, &mut out);
-    exact_room(form, 0, &mut out);
-    exact_room(form, 0x55, &mut out);
-    exact_room(form, 0xff, &mut out);
-    longer_room(form, 0x55, &mut out);
+    in_room::<0>(form, 0, &mut out);
+    in_room::<SHORT>(form, 0, &mut out);
+    in_room::<SHORT>(form, 0x55, &mut out);
+    in_room::<EXACT>(form, 0, &mut out);
+    in_room::<EXACT>(form, 0x55, &mut out);
+    in_room::<EXACT>(form, 0xff, &mut out);
+    in_room::<LONGER>(form, 0x55, &mut out);
 }
 
 fn no_output(form: &[u8]) {
     let mut out = [0u8; 0];
-    short_room(form, 0x55, &mut out);
-    exact_room(form, 0x55, &mut out);
+    in_room::<SHORT>(form, 0x55, &mut out);
+    in_room::<EXACT>(form, 0x55, &mut out);
 }
 
 fn exact_output(form: &[u8]) {
     let mut out = [0u8; 1];
-    exact_room(form, 0x55, &mut out);
-    longer_room(form, 0xff, &mut out);
+    in_room::<EXACT>(form, 0x55, &mut out);
+    in_room::<LONGER>(form, 0xff, &mut out);
 }
 
 // (c (q . 5) (q . 6)), which becomes (q 5 . 6): five bytes
@@ -155,28 +129,28 @@ fn five_bytes(form: &[u8]) {
     let mut short = [0u8; 4];
     let mut exact = [0u8; 5];
     let mut long = [0u8; 6];
-    longer_room(form, 0x55, &mut short);
-    exact_room(form, 0x55, &mut exact);
-    exact_room(form, 0, &mut long);
+    in_room::<LONGER>(form, 0x55, &mut short);
+    in_room::<EXACT>(form, 0x55, &mut exact);
+    in_room::<EXACT>(form, 0, &mut long);
 }
 
 // a mark, and refusals of the reader and of the driver
 fn others() {
     let mut out = [0u8; 4];
-    exact_room(b"\xff\x05\xff\x82\xff\x80\x80", 0x55, &mut out);
-    exact_room(b"", 0x55, &mut out);
-    exact_room(b"\xff\x05", 0, &mut out);
-    longer_room(b"\xff\x05\x80\x80", 0xff, &mut out);
-    exact_room(b"\xff\x05\xff\x80\x80", 0x55, &mut out);
-    longer_room(b"\xff\x05\xff\x80\x80", 0x55, &mut out);
+    in_room::<EXACT>(b"\xff\x05\xff\x82\xff\x80\x80", 0x55, &mut out);
+    in_room::<EXACT>(b"", 0x55, &mut out);
+    in_room::<EXACT>(b"\xff\x05", 0, &mut out);
+    in_room::<LONGER>(b"\xff\x05\x80\x80", 0xff, &mut out);
+    in_room::<EXACT>(b"\xff\x05\xff\x80\x80", 0x55, &mut out);
+    in_room::<LONGER>(b"\xff\x05\xff\x80\x80", 0x55, &mut out);
 }
 
 // a form of 8,193 bytes, in a room that is too small and in one that is not
 fn long_form() {
     let form = [0u8; 8193];
     let mut out = [0u8; 1];
-    short_room(&form, 0x55, &mut out);
-    exact_room(&form, 0x55, &mut out);
+    in_room::<SHORT>(&form, 0x55, &mut out);
+    in_room::<EXACT>(&form, 0x55, &mut out);
 }
 
 fn main() {
