@@ -21,4 +21,3 @@ compose_paths-path-requires-clause-bytes_bound c = search laws.walk_short
 
 pub loop-turn-preserved : goal.loop-turn-preserved
 loop-turn-preserved c = search laws.walk_again
-
