@@ -61,4 +61,3 @@ then_wrote p w out out₁ ys a k d e h =
           ∙ sym (append_assoc p w (drop (length p + length w) out))
           ∙ ap (λ (y : ℕ). (p ++ w) ++ drop y out) (sym z);
     }
-

@@ -36,7 +36,6 @@ pub record Counted (f : List ℕ) (end at k v n i : ℕ) : Type 0 where
   pub small : n < 64 * 256 ^ i
   pub so : (u : ℕ) → more k v (left_from f at end u) ≡ more (k - i) n (left_from f (at + i) end u)
 
-
 -- where fewer than k bytes are left
 none_more : (f : List ℕ) (end u k at v : ℕ) → end ≤ length f → end - at < k → Stops (more k v (left_from f at end u)) EndsEarly
 unfolding more

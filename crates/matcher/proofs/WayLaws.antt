@@ -4,8 +4,9 @@ use mathlib.Core.Path.{◌≡◌, refl, sym, ◌∙◌, ap, ap₂, subst}
 use mathlib.Core.List.{List, [], ◌∷◌, ◌++◌, append-nil}
 use mathlib.Core.Bool.{Bool, true, false}
 use native.Mathlib.Omega.{arith}
-use lib.ListN.{length, take, drop, replicate, length-append, length-drop, drop_of_length-le}
+use lib.ListN.{length, take, drop, replicate, length-append, length-drop}
 use lib.Seq.{take_all}
+use Rattle.std.specs.Prelude.{Option, Some, None}
 use Rattle.meaning.specs.Tree.{atom, pair}
 use Rattle.meaning.specs.Limits.{place_turns}
 use Rattle.meaning.specs.Number.{number, onto, compose_paths, bytes_of}
@@ -36,8 +37,6 @@ use Rattle.paths.specs.Wide.{Holds}
 use Rattle.paths.proofs.SizeLaws.{short_bytes}
 use Rattle.paths.proofs.ShortestLaws.{held_len}
 use Rattle.matcher.specs.declared.way.Part.{Part}
-use Rattle.matcher.specs.declared.way.Step.{Step}
-use Rattle.matcher.specs.declared.way.Step.TheVariants.{Down, Here}
 use Rattle.matcher.specs.Way.{match_of, OnWay, Below, StepOk}
 use Rattle.matcher.proofs.PlaceLaws.{turns_fit}
 
@@ -63,35 +62,31 @@ module _ (f s : List ℕ) (c : Charges) (w : Part) (a b l r : ℕ) (s₁ : List 
     path = i;
   }
 
-  pub left_below : (t : Step) (k : ℕ) → t ≡ Down (record { pattern = a; node = l; ks = w.ks; turn = k }) → k ≡ 2 → x ≡ NoMatch → Ready f s c a → Ready f s c l
-      → StepOk f s s₁ c w t
+  pub left_below : x ≡ NoMatch → Ready f s c a → Ready f s c l → StepOk f s s₁ c w (Some (record { pattern = a; node = l; ks = w.ks; turn = 2 }))
   unfolding StepOk match_of match_at meaning.in_part onto
-  left_below t k et i ex ra rl =
+  left_below ex ra rl =
       let (ds, z) = is_failed first (rw ex at h.answer) in
       let ta : tree_at f s₁ a ≡ tree_at f s a = ready.grown_tree h.grown ra in
       let tl : tree_at f s₁ l ≡ tree_at f s l = ready.grown_tree h.grown rl in
       let tk : bindings_at f s₁ w.ks ≡ bindings_at f s w.ks = kept.bindings_after h.grown on.bound in
       let e : meaning.in_part false first ≡ match_of f s w =
       ap (meaning.in_part false) (sym z) ∙ trees.parts_not (tree_at f s a) (tree_at f s b) (tree_at f s l) (tree_at f s r) (bindings_at f s w.ks) ds z ∙ parts in
-      rw et
-      (side_below (record { pattern = a; node = l; ks = w.ks; turn = k }) false (ready.grown_ready h.grown ra) (ready.grown_ready h.grown rl) (kept.bound_after h.grown on.bound)
-      (rw (ta, tl, tk) (sym e)) i)
+      side_below (record { pattern = a; node = l; ks = w.ks; turn = 2 }) false (ready.grown_ready h.grown ra) (ready.grown_ready h.grown rl) (kept.bound_after h.grown on.bound)
+      (rw (ta, tl, tk) (sym e)) refl
 
-  pub right_below : (t : Step) (k : ℕ) (js : Bindings) → t ≡ Down (record { pattern = b; node = r; ks = js; turn = k }) → k ≡ 3 → x ≡ Matched js → Ready f s c b → Ready f s c r
-      → StepOk f s s₁ c w t
+  pub right_below : (js : Bindings) → x ≡ Matched js → Ready f s c b → Ready f s c r → StepOk f s s₁ c w (Some (record { pattern = b; node = r; ks = js; turn = 3 }))
   unfolding StepOk match_of match_at BoundIn onto
-  right_below t k js et i ex rb rr =
+  right_below js ex rb rr =
       let z : meaning.matched (bindings_at f s₁ js) ≡ first = is_matched first (bindings_at f s₁ js) (rw ex at h.answer) in
       let tb : tree_at f s₁ b ≡ tree_at f s b = ready.grown_tree h.grown rb in
       let tr : tree_at f s₁ r ≡ tree_at f s r = ready.grown_tree h.grown rr in
       let e : meaning.in_part true (meaning.match_sexp (tree_at f s b) (tree_at f s r) (bindings_at f s₁ js)) ≡ match_of f s w =
       trees.parts_matched (tree_at f s a) (tree_at f s b) (tree_at f s l) (tree_at f s r) (bindings_at f s w.ks) (bindings_at f s₁ js) z ∙ parts in
-      rw et
-      (side_below (record { pattern = b; node = r; ks = js; turn = k }) true (ready.grown_ready h.grown rb) (ready.grown_ready h.grown rr) (rw ex at h.bound)
-      (rw (tb, tr) (sym e)) i)
+      side_below (record { pattern = b; node = r; ks = js; turn = 3 }) true (ready.grown_ready h.grown rb) (ready.grown_ready h.grown rr) (rw ex at h.bound)
+      (rw (tb, tr) (sym e)) refl
 
   -- a third name is no failure
-  pub none_below : x ≡ TooManyNames → StepOk f s s₁ c w Here
+  pub none_below : x ≡ TooManyNames → StepOk f s s₁ c w None
   unfolding match_at meaning.verdict IsNo
   none_below ex =
       let z : meaning.too_many_names ≡ first = is_third first (rw ex at h.answer) in
@@ -102,16 +97,13 @@ module _ (f s : List ℕ) (c : Charges) (w : Part) (a b l r : ℕ) (s₁ : List 
 -- ---- next
 
 module _ (f s : List ℕ) (c : Charges) (w : Part) (on : OnWay f s c w) where
-  pub way_bound : Bound f s c w.ks
-  way_bound = on.bound
-
   pub pattern_room : Room s w.pattern
   pattern_room = ready.room f s c w.pattern on.pattern
 
   pub node_room : Room s w.node
   node_room = ready.room f s c w.node on.node
 
-pub atom_stops : (f s : List ℕ) (c : Charges) (w : Part) (q : Cell) → q ≡ Atom → q ≡ cell_at s w.pattern → OnWay f s c w → StepOk f s s c w Here
+pub atom_stops : (f s : List ℕ) (c : Charges) (w : Part) (q : Cell) → q ≡ Atom → q ≡ cell_at s w.pattern → OnWay f s c w → StepOk f s s c w None
 unfolding StepOk match_of
 atom_stops f s c w q e eq on =
     let t : tree_at f s w.pattern ≡ atom (bytes_at f s w.pattern) = ready.look_atom f s w.pattern q eq e in
@@ -130,7 +122,7 @@ module _ (f s : List ℕ) (c : Charges) (w : Part) (a b : ℕ) (q : Cell) (ep : 
   pub part_b : Ready f s c b
   part_b = ready.ready_right f s c w.pattern a b q ep eq on.pattern
 
-  pub leaf_stops : (q' : Cell) → q' ≡ Atom → q' ≡ cell_at s w.node → StepOk f s s c w Here
+  pub leaf_stops : (q' : Cell) → q' ≡ Atom → q' ≡ cell_at s w.node → StepOk f s s c w None
   unfolding StepOk match_of
   leaf_stops q' e eq' =
       let t : tree_at f s w.pattern ≡ pair (tree_at f s a) (tree_at f s b) = tree_pair f s w.pattern a b (sym eq ∙ ep) in
@@ -143,7 +135,7 @@ module _ (f s : List ℕ) (c : Charges) (w : Part) (a b : ℕ) (q : Cell) (ep : 
     parts_are d = rw (tree_pair f s w.pattern a b (sym eq ∙ ep), tree_pair f s w.node l r (sym eq' ∙ ep'))
         (trees.pair_parts (tree_at f s a) (tree_at f s b) (tree_at f s l) (tree_at f s r) (bindings_at f s w.ks) (sym d ∙ eu))
 
-    pub any_stops : u ≡ true → StepOk f s s c w Here
+    pub any_stops : u ≡ true → StepOk f s s c w None
     unfolding StepOk match_of
     any_stops d =
         let e : meaning.unify_bindings (bindings_at f s w.ks) (bytes_at f s b) (tree_at f s w.node) ≡ match_of f s w =
@@ -170,7 +162,7 @@ module _ (p : Number) (h : Holds (number p.bytes) p) (l : number p.bytes < 256 ^
 
   -- the path's shortest bytes, and the 64 bytes to whose end they go
   abbrev src : List ℕ
-  src = take (65 - (65 - p.len)) (drop (65 - p.len) p.bytes)
+  src = take (length p.bytes - (65 - p.len)) (drop (65 - p.len) p.bytes)
 
   abbrev zeros : List ℕ
   zeros = replicate 64 0
@@ -179,23 +171,20 @@ module _ (p : Number) (h : Holds (number p.bytes) p) (l : number p.bytes < 256 ^
   src_is =
       let a : length (drop (65 - p.len) p.bytes) ≡ length p.bytes - (65 - p.len) = length-drop (65 - p.len) p.bytes in
       let b : length p.bytes ≡ 65 = h.wide in
-      take_all (65 - (65 - p.len)) (drop (65 - p.len) p.bytes) (omega arith) ∙ h.shown
+      take_all (length p.bytes - (65 - p.len)) (drop (65 - p.len) p.bytes) (omega arith) ∙ h.shown
 
   src_long : length src ≡ p.len
   src_long = ap length src_is ∙ sym (held_len h)
 
-  pub copy_fits : length src ≤ length (lent zeros (64 - p.len))
+  pub copy_fits : length (lent zeros (64 - p.len)) ≡ length src
   copy_fits = let a : length (lent zeros (64 - p.len)) ≡ 64 - (64 - p.len) = lent_length zeros (64 - p.len) in let b = src_long in let d = path_short in omega arith
 
-  pub path_placed : (ys : List ℕ) → ys ≡ src ++ drop (length src) (lent zeros (64 - p.len)) → back zeros (64 - p.len) ys ≡ meaning.place_bytes (number p.bytes)
+  pub path_placed : (ys : List ℕ) → ys ≡ src → back zeros (64 - p.len) ys ≡ meaning.place_bytes (number p.bytes)
   unfolding meaning.place_bytes
   path_placed ys e =
       let k = path_short in
-      let i = src_long in
-      let j : length (lent zeros (64 - p.len)) ≡ 64 - (64 - p.len) = lent_length zeros (64 - p.len) in
-      let a : drop (length src) (lent zeros (64 - p.len)) ≡ [] = drop_of_length-le (lent zeros (64 - p.len)) {i = length src} (omega arith) in
       let c : take (64 - p.len) zeros ≡ replicate (64 - p.len) 0 = zeros_front 0 (64 - p.len) 64 (omega arith) in
-      let y : ys ≡ bytes_of (number p.bytes) = e ∙ ap (src ++◌) a ∙ append-nil src ∙ src_is in
+      let y : ys ≡ bytes_of (number p.bytes) = e ∙ src_is in
       back_is zeros (64 - p.len) ys ∙ ap₂ ◌++◌ c y ∙ ap (λ m. replicate (64 - m) 0 ++ bytes_of (number p.bytes)) (held_len h)
 
 -- ---- place_node
@@ -240,12 +229,6 @@ walk_starts f s c p n k o e h rp rn d =
     }
 
 module _ (f s₀ s : List ℕ) (c : Charges) (m : meaning.Match) (w : Part) (path : Number) (turned : ℕ) (g : Walking f s₀ s c m w path turned) where
-  pub walk_same : (s₁ : List ℕ) → length s₁ ≡ length s → length s₁ ≡ length s₀
-  walk_same s₁ e = e ∙ g.same
-
-  pub walk_on : OnWay f s c w
-  walk_on = g.on
-
   pub walk_holds : Holds (number path.bytes) path
   walk_holds = rw g.to.value g.to
 
@@ -254,7 +237,7 @@ module _ (f s₀ s : List ℕ) (c : Charges) (m : meaning.Match) (w : Part) (pat
       let e : length g.done ≡ turned = g.count in
       rw g.to.value (turns_fit g.done 64 (omega arith))
 
-  pub walk_ends : (s₁ : List ℕ) (t : Step) (r : List ℕ) → r ≡ meaning.place_bytes (number path.bytes) → StepOk f s s₁ c w t → t ≡ Here → turned < 512 → r ≡ meaning.place_bytes (meaning.place m)
+  pub walk_ends : (s₁ : List ℕ) (t : Option Part) (r : List ℕ) → r ≡ meaning.place_bytes (number path.bytes) → StepOk f s s₁ c w t → t ≡ None → turned < 512 → r ≡ meaning.place_bytes (meaning.place m)
   unfolding StepOk meaning.place
   walk_ends s₁ t r e o et h =
       let z : meaning.no_match [] ≡ match_of f s w = rw et at o in
@@ -273,7 +256,7 @@ module _ (f s₀ s : List ℕ) (c : Charges) (m : meaning.Match) (w : Part) (pat
       let k : meaning.place (meaning.no_match (g.done ++ ds)) ≡ 0 = rw (leb_no (length (g.done ++ ds)) place_turns (omega arith), meaning.place) in
       ap meaning.place_bytes (sym (ap meaning.place i ∙ k))
 
-  pub walk_again : (s₁ : List ℕ) (t : Step) (v : Part) (path₁ : Number) → Holds (compose_paths (number path.bytes) v.turn) path₁ → StepOk f s s₁ c w t → t ≡ Down v → length s₁ ≡ length s → Walking f s₀ s₁ c m v path₁ (turned + 1)
+  pub walk_again : (s₁ : List ℕ) (t : Option Part) (v : Part) (path₁ : Number) → Holds (compose_paths (number path.bytes) v.turn) path₁ → StepOk f s s₁ c w t → t ≡ Some v → length s₁ ≡ length s → Walking f s₀ s₁ c m v path₁ (turned + 1)
   unfolding StepOk compose_paths onto
   walk_again s₁ t v path₁ q o et n =
       let b : Below f s s₁ c w v = rw et at o in

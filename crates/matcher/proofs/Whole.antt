@@ -7,6 +7,7 @@ use native.Mathlib.Omega.{arith}
 use lib.ListN.{length, take, drop, length-append}
 use lib.Dec.{leb}
 use borrow.Author.Tests.{le-leb, leb-true}
+use Rattle.std.specs.Prelude.{Option, Some, None}
 use Rattle.refusals.specs.declared.Refusal.{Refusal}
 use Rattle.refusals.specs.declared.Refusal.TheVariants.{RoomSmall, OutputShort}
 use Rattle.meaning.specs.Limits.{room_least, path_limit}
@@ -21,8 +22,6 @@ use Rattle.form.specs.Writes.{Wrote}
 use Rattle.pattern.specs.declared.Bindings.{Bindings}
 use Rattle.pattern.specs.Bound.{bindings_at, Bound}
 use Rattle.matcher.specs.declared.Parts.{Parts}
-use Rattle.matcher.specs.declared.Placed.{Placed}
-use Rattle.matcher.specs.declared.Placed.TheVariants.{All, Over}
 use Rattle.matcher.specs.declared.Worked.{Worked}
 use Rattle.matcher.specs.declared.Said.{Said}
 use Rattle.matcher.specs.declared.Said.TheVariants.{Bound as bound-to, NoMatch as not-matched, TooManyNames as too_many, Stop}
@@ -36,25 +35,25 @@ use Rattle.matcher.proofs.PlaceLaws.{place_number, place_short}
 
 -- ---- deliver
 
-module _ (out : List ℕ) (ks : List meaning.Binding) (r : Placed) (e : r ≡ placed (length out) ks) where
-  pub parts_long : r ≡ Over → Answers (placeless (delivered (length out) (meaning.matched ks))) out out (Refused OutputShort)
+module _ (out : List ℕ) (ks : List meaning.Binding) (r : Option Parts) (e : r ≡ placed (length out) ks) where
+  pub parts_long : r ≡ None → Answers (placeless (delivered (length out) (meaning.matched ks))) out out (Refused OutputShort)
   unfolding placeless placed delivered deliver says_at told out_after
   parts_long d = record { at = λ p. go p (leb (length (joined (parts ks))) (length out)) refl (sym d ∙ e) }
     where
-      go : (p : List ℕ) (b : Bool) → leb (length (joined (parts ks))) (length out) ≡ b → Over ≡ elim b [ true ↦ All (record { count = length ks; name_1 = end 1 ks; node_1 = end 2 ks; name_2 = end 3 ks; node_2 = end 4 ks }) | false ↦ Over ] → Delivers (says_at p) (delivered (length out) (meaning.matched ks)) out out (Refused OutputShort)
+      go : (p : List ℕ) (b : Bool) → leb (length (joined (parts ks))) (length out) ≡ b → ◌≡◌ {A = Option Parts} None (elim b [ true ↦ Some (record { count = length ks; name_1 = end 1 ks; node_1 = end 2 ks; name_2 = end 3 ks; node_2 = end 4 ks }) | false ↦ None ]) → Delivers (says_at p) (delivered (length out) (meaning.matched ks)) out out (Refused OutputShort)
       go p true h k = let z : ◌≡◌ {A = ℕ} 0 1 = cc in absurd (omega arith)
       go p false h k = rw (h, deliver) (record { answer = refl; out = refl })
 
-  module _ (p : Parts) (d : r ≡ All p) where
+  module _ (p : Parts) (d : r ≡ Some p) where
     pub parts_fit : length (joined (parts ks)) ≤ length out
     unfolding placed
     parts_fit = go (leb (length (joined (parts ks))) (length out)) refl (sym d ∙ e)
       where
-        go : (b : Bool) → leb (length (joined (parts ks))) (length out) ≡ b → All p ≡ elim b [ true ↦ All (record { count = length ks; name_1 = end 1 ks; node_1 = end 2 ks; name_2 = end 3 ks; node_2 = end 4 ks }) | false ↦ Over ] → length (joined (parts ks)) ≤ length out
+        go : (b : Bool) → leb (length (joined (parts ks))) (length out) ≡ b → Some p ≡ elim b [ true ↦ Some (record { count = length ks; name_1 = end 1 ks; node_1 = end 2 ks; name_2 = end 3 ks; node_2 = end 4 ks }) | false ↦ None ] → length (joined (parts ks)) ≤ length out
         go true h k = leb-true (length (joined (parts ks))) (length out) h
         go false h k = let z : ◌≡◌ {A = ℕ} 0 1 = cc in absurd (omega arith)
 
-    parts_are : All p ≡ All (record { count = length ks; name_1 = end 1 ks; node_1 = end 2 ks; name_2 = end 3 ks; node_2 = end 4 ks })
+    parts_are : Some p ≡ Some (record { count = length ks; name_1 = end 1 ks; node_1 = end 2 ks; name_2 = end 3 ks; node_2 = end 4 ks })
     unfolding placed
     parts_are = sym d ∙ e ∙ rw (le-leb (length (joined (parts ks))) (length out) parts_fit, placed)
 
@@ -120,9 +119,6 @@ module _ (f : List ℕ) (first : ℕ) (s w : List ℕ) where
           settles = zeroed_settles says comes s s₁ s₂ w w₁ (record { answer = a; place = r.place }) (record { answer = e.answer; out = e.out }) zeros h z same;
           place = o.place (length w) ∙ sym (ap place_of (room_enough (length s) comes h));
         }
-
-pub matches_bound : (f s₁ : List ℕ) (comes : ℕ → Outcome) (r : Worked) → Shows f s₁ comes r → BoundIn f s₁ r.said
-matches_bound f s₁ comes r h = h.bound
 
 -- ---- the ends stand in order in the output
 

@@ -2,13 +2,14 @@
 use mathlib.Core.Path.{◌≡◌, refl, sym, ◌∙◌}
 use mathlib.Core.List.{List, [], ◌∷◌, ◌++◌, append_assoc, append-nil}
 use mathlib.Core.Bool.{Bool, true, false}
-use Prim.Native.Nat.{ℕ, ◌+◌, ◌-◌, ◌^◌, ◌<◌, ◌≤◌}
+use Prim.Native.Nat.{ℕ, ◌+◌, ◌-◌, ◌<◌, ◌≤◌}
 use native.Mathlib.Omega.{arith}
 use lib.ListN.{length, take, length-append}
 use lib.Dec.{leb}
 use mir.Syntax.{w64}
 use mir.Val.{Fits}
 use borrow.Author.Tests.{le-leb, lt-leb, leb-true, leb-false}
+use Rattle.std.specs.Prelude.{Option, Some, None}
 use Rattle.meaning.specs.Form.{write}
 use Rattle.meaning.specs.Match as meaning
 use Rattle.store.specs.declared.Charges.{Charges}
@@ -18,14 +19,12 @@ use Rattle.form.specs.declared.Extent.{Extent}
 use Rattle.form.specs.declared.Extent.TheVariants.{Long, Over as too_long}
 use Rattle.form.specs.Writes.{Writable, Wrote, extent}
 use Rattle.form.proofs.Bytes.{node_writable}
-use Rattle.form.proofs.Lend.{lent, back, then_wrote, lent_length, back_length, wrote_length}
+use Rattle.form.proofs.Lend.{lent, back, then_wrote, lent_length, wrote_length}
 use Rattle.form.proofs.Writer.{extent_over, extent_long}
 use Rattle.pattern.specs.declared.Bindings.{Bindings}
 use Rattle.pattern.specs.Bound.{binding_at, bindings_at, Bound}
 use Rattle.pattern.proofs.Kept.{name_tree}
-use Rattle.matcher.specs.declared.Ends.{Ends}
-use Rattle.matcher.specs.declared.Ends.TheVariants.{At, Over as ends_over}
-use Rattle.matcher.specs.declared.Placed.TheVariants.{All, Over}
+use Rattle.matcher.specs.declared.Parts.{Parts}
 use Rattle.matcher.specs.Outcome.{parts, joined, end}
 use Rattle.matcher.specs.Steps.{ends, placed}
 
@@ -56,16 +55,16 @@ module _ (limit at n : ℕ) (h : at ≤ limit) (r : Extent) (e : r ≡ extent (l
 -- ---- end_both
 
 module _ (limit at a b : ℕ) where
-  ends_are : at + a + b ≤ limit → At (at + a) (at + a + b) ≡ ends limit at a b
+  ends_are : at + a + b ≤ limit → Some (at + a, at + a + b) ≡ ends limit at a b
   unfolding ends
   ends_are h = rw (le-leb (at + a + b) limit h, ends)
 
-  ends_not : limit < at + a + b → ends_over ≡ ends limit at a b
+  ends_not : limit < at + a + b → None ≡ ends limit at a b
   unfolding ends
   ends_not h = rw (lt-leb (at + a + b) limit h, ends)
 
   module _ (r : Extent) (e : r ≡ extent limit (at + a)) where
-    pub first_over : r ≡ too_long → ends_over ≡ ends limit at a b
+    pub first_over : r ≡ too_long → None ≡ ends limit at a b
     first_over d = let z : limit < at + a = extent_over limit (at + a) r e d in ends_not (omega arith)
 
     module _ (mid : ℕ) (d : r ≡ Long mid) where
@@ -76,10 +75,10 @@ module _ (limit at a b : ℕ) where
       mid_fits = let i = extent_long limit (at + a) mid r e d in omega (arith, i.same, i.fits)
 
       module _ (q : Extent) (e₂ : q ≡ extent limit (mid + b)) where
-        pub second_over : q ≡ too_long → ends_over ≡ ends limit at a b
+        pub second_over : q ≡ too_long → None ≡ ends limit at a b
         second_over d₂ = let z : limit < mid + b = extent_over limit (mid + b) q e₂ d₂ in ends_not (omega (arith, mid_is))
 
-        pub both_end : (k : ℕ) → q ≡ Long k → At mid k ≡ ends limit at a b
+        pub both_end : (k : ℕ) → q ≡ Long k → Some (mid, k) ≡ ends limit at a b
         both_end k d₂ =
             let i = extent_long limit (mid + b) k q e₂ d₂ in
             let y : mid ≡ at + a = mid_is in
@@ -92,42 +91,44 @@ pub record EndsAt (limit at a b u v : ℕ) : Type 0 where
   pub last : v ≡ at + a + b
   pub fits : v ≤ limit
 
-module _ (limit at a b : ℕ) (r : Ends) (e : r ≡ ends limit at a b) where
-  pub ends_at : (u v : ℕ) → r ≡ At u v → EndsAt limit at a b u v
+module _ (limit at a b : ℕ) (r : Option (ℕ × ℕ)) (e : r ≡ ends limit at a b) where
+  pub ends_at : (w : ℕ × ℕ) → r ≡ Some w → EndsAt limit at a b w.0 w.1
   unfolding ends
-  ends_at u v d = go (leb (at + a + b) limit) refl (sym d ∙ e)
+  ends_at w d = go (leb (at + a + b) limit) refl (sym d ∙ e)
     where
-      go : (t : Bool) → leb (at + a + b) limit ≡ t → At u v ≡ elim t [ true ↦ At (at + a) (at + a + b) | false ↦ ends_over ] → EndsAt limit at a b u v
+      go : (t : Bool) → leb (at + a + b) limit ≡ t → ◌≡◌ {A = Option (ℕ × ℕ)} (Some w) (elim t [ true ↦ Some (at + a, at + a + b) | false ↦ None ]) → EndsAt limit at a b w.0 w.1
       go true h k =
-          let x : u ≡ at + a = cc in
-          let y : v ≡ at + a + b = cc in
+          let y : w ≡ (at + a, at + a + b) = cc in
           let z : at + a + b ≤ limit = leb-true (at + a + b) limit h in
-          record { middle = x; last = y; fits = omega arith }
+          rw y (record { middle = refl; last = refl; fits = z })
       go false h k = let z : ◌≡◌ {A = ℕ} 0 1 = cc in absurd (omega arith)
 
-  pub ends_long : r ≡ ends_over → limit < at + a + b
+  pub ends_long : r ≡ None → limit < at + a + b
   unfolding ends
   ends_long d = go (leb (at + a + b) limit) refl (sym d ∙ e)
     where
-      go : (t : Bool) → leb (at + a + b) limit ≡ t → ends_over ≡ elim t [ true ↦ At (at + a) (at + a + b) | false ↦ ends_over ] → limit < at + a + b
+      go : (t : Bool) → leb (at + a + b) limit ≡ t → ◌≡◌ {A = Option (ℕ × ℕ)} None (elim t [ true ↦ Some (at + a, at + a + b) | false ↦ None ]) → limit < at + a + b
       go true h k = let z : ◌≡◌ {A = ℕ} 0 1 = cc in absurd (omega arith)
       go false h k = leb-false (at + a + b) limit h
 
 -- ---- place
 
+abbrev all : ℕ → ℕ → ℕ → ℕ → ℕ → Option Parts
+all k a b c d = Some (record { count = k; name_1 = a; node_1 = b; name_2 = c; node_2 = d })
+
 -- bytes of all parts, and of the first k
 total : List (List ℕ) → ℕ
 total ps = length (joined ps)
 
-all_same : {k a a' b b' c c' d d' : ℕ} → a ≡ a' → b ≡ b' → c ≡ c' → d ≡ d' → All (record { count = k; name_1 = a; node_1 = b; name_2 = c; node_2 = d }) ≡ All (record { count = k; name_1 = a'; node_1 = b'; name_2 = c'; node_2 = d' })
+all_same : {k a a' b b' c c' d d' : ℕ} → a ≡ a' → b ≡ b' → c ≡ c' → d ≡ d' → all k a b c d ≡ all k a' b' c' d'
 all_same p q r s = rw (p, q, r, s)
 
 module _ (limit : ℕ) (ks : List meaning.Binding) where
-  placed_are : total (parts ks) ≤ limit → All (record { count = length ks; name_1 = end 1 ks; node_1 = end 2 ks; name_2 = end 3 ks; node_2 = end 4 ks }) ≡ placed limit ks
+  placed_are : total (parts ks) ≤ limit → all (length ks) (end 1 ks) (end 2 ks) (end 3 ks) (end 4 ks) ≡ placed limit ks
   unfolding placed total
   placed_are h = rw (le-leb (length (joined (parts ks))) limit h, placed)
 
-  placed_not : limit < total (parts ks) → Over ≡ placed limit ks
+  placed_not : limit < total (parts ks) → None ≡ placed limit ks
   unfolding placed total
   placed_not h = rw (lt-leb (length (joined (parts ks))) limit h, placed)
 
@@ -211,25 +212,25 @@ module _ (f s : List ℕ) (c : Charges) (ks : Bindings) (h : Bound f s c ks) whe
       (λ o. rw (one_binding o, parts_x, two_parts n₁ t₁) (omega arith))
       (λ o. rw (two_bindings z o, parts_y, four_parts n₁ t₁ n₂ t₂) (omega arith))
 
-  pub none_placed : (limit : ℕ) → ks.count ≡ 0 → All (record { count = 0; name_1 = 0; node_1 = 0; name_2 = 0; node_2 = 0 }) ≡ placed limit (bindings_at f s ks)
+  pub none_placed : (limit : ℕ) → ks.count ≡ 0 → all 0 0 0 0 0 ≡ placed limit (bindings_at f s ks)
   unfolding total parts joined end
   none_placed limit e = rw (zero_bindings e) (placed_are limit [] (omega arith))
 
-  module _ (limit : ℕ) (r : Ends) (er : r ≡ ends limit 0 (length n₁) (length t₁)) where
-    pub first_long : r ≡ ends_over → (ks.count ≡ 0 → ⊥) → Over ≡ placed limit (bindings_at f s ks)
+  module _ (limit : ℕ) (r : Option (ℕ × ℕ)) (er : r ≡ ends limit 0 (length n₁) (length t₁)) where
+    pub first_long : r ≡ None → (ks.count ≡ 0 → ⊥) → None ≡ placed limit (bindings_at f s ks)
     first_long d z =
         let i : limit < 0 + length n₁ + length t₁ = ends_long limit 0 (length n₁) (length t₁) r er d in
         let j : length n₁ + length t₁ ≤ total (parts (bindings_at f s ks)) = at_least z in
         placed_not limit (bindings_at f s ks) (omega arith)
 
-    module _ (u v : ℕ) (d : r ≡ At u v) where
+    module _ (u v : ℕ) (d : r ≡ Some (u, v)) where
       i₁ : EndsAt limit 0 (length n₁) (length t₁) u v
-      i₁ = ends_at limit 0 (length n₁) (length t₁) r er u v d
+      i₁ = ends_at limit 0 (length n₁) (length t₁) r er (u, v) d
 
       pub between : v ≤ limit
       between = i₁.fits
 
-      pub one_placed : ks.count ≡ 1 → All (record { count = 1; name_1 = u; node_1 = v; name_2 = v; node_2 = v }) ≡ placed limit (bindings_at f s ks)
+      pub one_placed : ks.count ≡ 1 → all 1 u v v v ≡ placed limit (bindings_at f s ks)
       one_placed e =
           let a : u ≡ 0 + length n₁ = i₁.middle in
           let b : v ≡ 0 + length n₁ + length t₁ = i₁.last in
@@ -240,18 +241,18 @@ module _ (f s : List ℕ) (c : Charges) (ks : Bindings) (h : Bound f s c ks) whe
           rw (one_binding e)
           (all_same (omega (arith, g 1, one_part n₁ t₁)) (omega (arith, g 2)) (omega (arith, g 3)) (omega (arith, g 4)) ∙ placed_are limit (x ∷ []) z)
 
-      module _ (z : ks.count ≡ 0 → ⊥) (o : ks.count ≡ 1 → ⊥) (q : Ends) (eq : q ≡ ends limit v (length n₂) (length t₂)) where
-        pub second_long : q ≡ ends_over → Over ≡ placed limit (bindings_at f s ks)
+      module _ (z : ks.count ≡ 0 → ⊥) (o : ks.count ≡ 1 → ⊥) (q : Option (ℕ × ℕ)) (eq : q ≡ ends limit v (length n₂) (length t₂)) where
+        pub second_long : q ≡ None → None ≡ placed limit (bindings_at f s ks)
         second_long d₂ =
             let a : v ≡ 0 + length n₁ + length t₁ = i₁.last in
             let i : limit < v + length n₂ + length t₂ = ends_long limit v (length n₂) (length t₂) q eq d₂ in
             rw (two_bindings z o) (placed_not limit (x ∷ y ∷ []) (rw (parts_y, four_parts n₁ t₁ n₂ t₂) (omega arith)))
 
-        pub two_placed : (u₂ v₂ : ℕ) → q ≡ At u₂ v₂ → All (record { count = 2; name_1 = u; node_1 = v; name_2 = u₂; node_2 = v₂ }) ≡ placed limit (bindings_at f s ks)
+        pub two_placed : (u₂ v₂ : ℕ) → q ≡ Some (u₂, v₂) → all 2 u v u₂ v₂ ≡ placed limit (bindings_at f s ks)
         two_placed u₂ v₂ d₂ =
             let a : u ≡ 0 + length n₁ = i₁.middle in
             let b : v ≡ 0 + length n₁ + length t₁ = i₁.last in
-            let i = ends_at limit v (length n₂) (length t₂) q eq u₂ v₂ d₂ in
+            let i = ends_at limit v (length n₂) (length t₂) q eq (u₂, v₂) d₂ in
             let a₂ : u₂ ≡ v + length n₂ = i.middle in
             let b₂ : v₂ ≡ v + length n₂ + length t₂ = i.last in
             let e : v₂ ≤ limit = i.fits in
@@ -263,18 +264,8 @@ module _ (f s : List ℕ) (c : Charges) (ks : Bindings) (h : Bound f s c ks) whe
 
 -- ---- writing
 
-pub after_first : (p q out out₁ : List ℕ) (k : ℕ) → Wrote p k out out₁ → length p + length q ≤ length out → k ≤ length out₁
-after_first p q out out₁ k w h = omega (arith, w.count, wrote_length p out out₁ k w (omega arith))
-
 pub fits_after : (p q out out₁ : List ℕ) (k : ℕ) → Wrote p k out out₁ → length p + length q ≤ length out → length q ≤ length (lent out₁ k)
 fits_after p q out out₁ k w h = omega (arith, w.count, lent_length out₁ k, wrote_length p out out₁ k w (omega arith))
-
--- what is written is no longer than the output
-pub sum_fits : (p q out out₁ ys : List ℕ) (a k : ℕ) → Wrote q k (lent out₁ a) ys → Wrote p a out out₁ → length p + length q ≤ length out → length out < 2 ^ 64 → Fits w64 (a + k)
-sum_fits p q out out₁ ys a k v w h g = record { fits = omega (arith, w.count, v.count) }
-
-pub same_out : (p q out out₁ ys : List ℕ) (a : ℕ) → length ys ≡ length (lent out₁ a) → Wrote p a out out₁ → length p + length q ≤ length out → length (back out₁ a ys) ≡ length out
-same_out p q out out₁ ys a e w h = back_length out₁ a ys e ∙ wrote_length p out out₁ a w (omega arith)
 
 module _ (f s : List ℕ) (c : Charges) (ks : Bindings) (h : Bound f s c ks) (out : List ℕ) (fits : length (joined (parts (bindings_at f s ks))) ≤ length out) where
   abbrev Parted : ℕ → List ℕ → Type 0
@@ -312,19 +303,10 @@ module _ (f s : List ℕ) (c : Charges) (ks : Bindings) (h : Bound f s c ks) (ou
           let i : total (parts (bindings_at f s ks)) ≡ length n₁' + length t₁' + length n₂' + length t₂' = rw (two_bindings f s c ks h z o, parts_y f s c ks h) (four_parts n₁' t₁' n₂' t₂') in
           omega (arith, length-append n₁' t₁', length-append n₂' t₂')
 
-      pub second_start : a ≤ length out₁
-      second_start = after_first (n₁' ++ t₁') (n₂' ++ t₂') out out₁ a w both_room
-
       pub second_room : length n₂' + length t₂' ≤ length (lent out₁ a)
       second_room = omega (arith, fits_after (n₁' ++ t₁') (n₂' ++ t₂') out out₁ a w both_room, length-append n₂' t₂')
 
       module _ (ys : List ℕ) (k : ℕ) (v : Wrote (n₂' ++ t₂') k (lent out₁ a) ys) where
-        pub second_sum : length out < 2 ^ 64 → Fits w64 (a + k)
-        second_sum g = sum_fits (n₁' ++ t₁') (n₂' ++ t₂') out out₁ ys a k v w both_room g
-
-        pub second_same : length ys ≡ length (lent out₁ a) → length (back out₁ a ys) ≡ length out
-        second_same e = same_out (n₁' ++ t₁') (n₂' ++ t₂') out out₁ ys a e w both_room
-
         pub two_written : Parted (a + k) (back out₁ a ys)
         unfolding joined
         two_written = rw (two_bindings f s c ks h z o, parts_y f s c ks h, append-nil, ← append_assoc n₁' t₁' (n₂' ++ t₂')) (then_wrote (n₁' ++ t₁') (n₂' ++ t₂') out out₁ ys a k w v both_room)

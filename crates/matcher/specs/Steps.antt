@@ -1,5 +1,5 @@
 -- What the steps promise: the two forms' match in the store, and where the parts end.
-use Rattle.std.specs.Prelude.{ℕ, ◌+◌, ◌≡◌, List, [], true, false, leb, length}
+use Rattle.std.specs.Prelude.{ℕ, ◌+◌, ◌≡◌, List, [], true, false, leb, length, Option, Some, None}
 use Rattle.meaning.specs.Match as meaning
 use Rattle.meaning.specs.Outcome.{Outcome, no_match, too_many_names, answered, refused, Delivers}
 use Rattle.pattern.specs.Bound.{bindings_at, Bound}
@@ -7,10 +7,7 @@ use Rattle.matcher.specs.declared.MatchAnswer.{MatchAnswer}
 use Rattle.matcher.specs.declared.Worked.{Worked}
 use Rattle.matcher.specs.declared.Said.{Said}
 use Rattle.matcher.specs.declared.Said.TheVariants.{Bound as bound-to, NoMatch, TooManyNames, Stop}
-use Rattle.matcher.specs.declared.Ends.{Ends}
-use Rattle.matcher.specs.declared.Ends.TheVariants.{At, Over as ends_over}
-use Rattle.matcher.specs.declared.Placed.{Placed}
-use Rattle.matcher.specs.declared.Placed.TheVariants.{All, Over}
+use Rattle.matcher.specs.declared.Parts.{Parts}
 use Rattle.matcher.specs.Outcome.{parts, joined, end, delivered, says_at, place_of}
 
 -- what comes of work, as the store shows it, with a place beside it
@@ -48,13 +45,13 @@ pub record Answers (o : List ℕ → Outcome) (w w' : List ℕ) (a : MatchAnswer
   pub at : (place : List ℕ) → Delivers (says_at place) (o place) w w' a
 
 -- where a and then b bytes end that stand from at on, where a limit allows them
-unfoldable pub ends : ℕ → ℕ → ℕ → ℕ → Ends
-ends limit at a b = elim (leb (at + a + b) limit) [ true ↦ At (at + a) (at + a + b) | false ↦ ends_over ]
+unfoldable pub ends : ℕ → ℕ → ℕ → ℕ → Option (ℕ × ℕ)
+ends limit at a b = elim (leb (at + a + b) limit) [ true ↦ Some (at + a, at + a + b) | false ↦ None ]
 
 -- all parts, where a limit allows them
-unfoldable pub placed : ℕ → List meaning.Binding → Placed
+unfoldable pub placed : ℕ → List meaning.Binding → Option Parts
 unfolding parts joined end
 placed limit ks = elim (leb (length (joined (parts ks))) limit) [
-  | true ↦ All (record { count = length ks; name_1 = end 1 ks; node_1 = end 2 ks; name_2 = end 3 ks; node_2 = end 4 ks })
-  | false ↦ Over
+  | true ↦ Some (record { count = length ks; name_1 = end 1 ks; node_1 = end 2 ks; name_2 = end 3 ks; node_2 = end 4 ks })
+  | false ↦ None
 ]

@@ -1,5 +1,5 @@
 -- The way down from the root to the place of a failure.
-use Rattle.std.specs.Prelude.{ℕ, ◌≡◌, List, [], ◌∷◌, Bool}
+use Rattle.std.specs.Prelude.{ℕ, ◌≡◌, List, [], ◌∷◌, Bool, Option, Some, None}
 use Rattle.meaning.specs.Number.{onto}
 use Rattle.meaning.specs.Match as meaning
 use Rattle.store.specs.declared.Charges.{Charges}
@@ -7,8 +7,6 @@ use Rattle.store.specs.Nodes.{tree_at}
 use Rattle.store.specs.Store.{Ready}
 use Rattle.pattern.specs.Bound.{bindings_at, Bound}
 use Rattle.matcher.specs.declared.way.Part.{Part}
-use Rattle.matcher.specs.declared.way.Step.{Step}
-use Rattle.matcher.specs.declared.way.Step.TheVariants.{Down, Here}
 
 -- the match of the two parts that stand against each other
 unfoldable pub match_of : List ℕ → List ℕ → Part → meaning.Match
@@ -29,6 +27,6 @@ pub record Below (f s s' : List ℕ) (c : Charges) (w v : Part) : Type 0 where
   pub whole : match_of f s w ≡ meaning.in_part turn (match_of f s' v)
   pub path : v.turn ≡ onto (turn ∷ []) 1
 
-unfoldable pub StepOk : List ℕ → List ℕ → List ℕ → Charges → Part → Step → Type 0
-StepOk f s s' c w (Down v) = Below f s s' c w v
-StepOk f s s' c w Here = meaning.no_match [] ≡ match_of f s w
+unfoldable pub StepOk : List ℕ → List ℕ → List ℕ → Charges → Part → Option Part → Type 0
+StepOk f s s' c w (Some v) = Below f s s' c w v
+StepOk f s s' c w None = meaning.no_match [] ≡ match_of f s w

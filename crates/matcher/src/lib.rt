@@ -61,20 +61,6 @@ pub(crate) struct Worked {
     pub(crate) place: [u8; 64],
 }
 
-// Where two trees end that are written one after the other, where a limit allows them.
-#[derive(Clone, Copy)]
-pub(crate) enum Ends {
-    At(usize, usize),
-    Over,
-}
-
-// Where all parts end, where a limit allows them.
-#[derive(Clone, Copy)]
-pub(crate) enum Placed {
-    All(Parts),
-    Over,
-}
-
 // ---- the two forms
 
 // What has no place.
@@ -82,8 +68,8 @@ fn unplaced(said: Said) -> Worked
     ensures { result ≡ record { said = said; place = meaning.place_bytes 0 } }
 {
     Worked {
-        said: said,
-        place: [0u8; 64],
+        said,
+        place: [0; 64],
     }
 }
 
@@ -126,6 +112,7 @@ fn end_node<'a>(forms: &'a [u8], room: &'a [u8], n: usize, at: usize, limit: usi
     }
 }
 
+// Where two trees end that are written one after the other, where the limit allows them.
 fn end_both<'a>(
     forms: &'a [u8],
     room: &'a [u8],
@@ -133,25 +120,32 @@ fn end_both<'a>(
     node: usize,
     at: usize,
     limit: usize,
-) -> Ends
+) -> Option<(usize, usize)>
     requires { Writable forms.now room.now name × Writable forms.now room.now node × (at ≤ limit) }
     ensures { result ≡ ends limit at (length (write (tree_in forms.now room.now name))) (length (write (tree_in forms.now room.now node))) }
 {
     match end_node(forms, room, name, at, limit) {
-        Extent::Over => Ends::Over,
+        Extent::Over => None,
         Extent::Long(mid) => match end_node(forms, room, node, mid, limit) {
-            Extent::Over => Ends::Over,
-            Extent::Long(end) => Ends::At(mid, end),
+            Extent::Over => None,
+            Extent::Long(end) => Some((mid, end)),
         },
     }
 }
 
-fn place<'a>(forms: &'a [u8], room: &'a [u8], ch: Charges, ks: Bindings, limit: usize) -> Placed
+// Where all parts end, where the limit allows them.
+fn place<'a>(
+    forms: &'a [u8],
+    room: &'a [u8],
+    ch: Charges,
+    ks: Bindings,
+    limit: usize,
+) -> Option<Parts>
     requires { Bound forms.now room.now ch ks }
     ensures { result ≡ placed limit (bindings_at forms.now room.now ks) }
 {
     if ks.count == 0 {
-        return Placed::All(Parts {
+        return Some(Parts {
             count: 0,
             name_1: 0,
             node_1: 0,
@@ -159,30 +153,24 @@ fn place<'a>(forms: &'a [u8], room: &'a [u8], ch: Charges, ks: Bindings, limit: 
             node_2: 0,
         });
     }
-    match end_both(forms, room, ks.name_1, ks.node_1, 0, limit) {
-        Ends::Over => Placed::Over,
-        Ends::At(a, b) => {
-            if ks.count == 1 {
-                return Placed::All(Parts {
-                    count: 1,
-                    name_1: a,
-                    node_1: b,
-                    name_2: b,
-                    node_2: b,
-                });
-            }
-            match end_both(forms, room, ks.name_2, ks.node_2, b, limit) {
-                Ends::Over => Placed::Over,
-                Ends::At(c, d) => Placed::All(Parts {
-                    count: 2,
-                    name_1: a,
-                    node_1: b,
-                    name_2: c,
-                    node_2: d,
-                }),
-            }
-        }
+    let (a, b) = end_both(forms, room, ks.name_1, ks.node_1, 0, limit)?;
+    let one = Parts {
+        count: 1,
+        name_1: a,
+        node_1: b,
+        name_2: b,
+        node_2: b,
+    };
+    if ks.count == 1 {
+        return Some(one);
     }
+    let (c, d) = end_both(forms, room, ks.name_2, ks.node_2, b, limit)?;
+    Some(Parts {
+        count: 2,
+        name_2: c,
+        node_2: d,
+        ..one
+    })
 }
 
 // Writes a name's atom and a tree to the front of out, which has room for them.
@@ -235,8 +223,8 @@ fn deliver<'a>(
     ensures { Answers (placeless (delivered (length out.old) (meaning.matched (bindings_at forms.now room.now ks)))) out.old out.new result }
 {
     match place(forms, room, ch, ks, out.len()) {
-        Placed::Over => MatchAnswer::Refused(Refusal::OutputShort),
-        Placed::All(e) => {
+        None => MatchAnswer::Refused(Refusal::OutputShort),
+        Some(e) => {
             write_parts(forms, room, ch, ks, out);
             MatchAnswer::Matched(e)
         }
@@ -265,16 +253,11 @@ pub fn matches(forms: &[u8], first: usize, room: &mut [u8], out: &mut [u8]) -> M
     if room.len() < ROOM {
         return Matching {
             answer: MatchAnswer::Refused(Refusal::RoomSmall),
-            place: [0u8; 64],
+            place: [0; 64],
         };
     }
-    let w = work(forms, room, first);
-    let said = w.said;
-    let a = answer(forms, room, said, out);
+    let Worked { said, place } = work(forms, room, first);
+    let answer = answer(forms, room, said, out);
     store::zero_room(room);
-    let place = w.place;
-    Matching {
-        answer: a,
-        place: place,
-    }
+    Matching { answer, place }
 }

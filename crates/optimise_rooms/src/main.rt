@@ -3,6 +3,8 @@
 // output, which was filled with ee.
 #![tactic(auto)]
 
+ghost use Rattle.std.specs.Prelude.{◌≤◌};
+
 use optimiser::Answer;
 
 // Standard output.
@@ -89,7 +91,9 @@ const EXACT: usize = 65536;
 const LONGER: usize = 70000;
 
 // In a room of N bytes.
-fn in_room<const N: usize>(form: &[u8], dirt: u8, out: &mut [u8]) {
+fn in_room<const N: usize>(form: &[u8], dirt: u8, out: &mut [u8])
+    requires { N ≤ 70000 }
+{
     let mut room = [0u8; N];
     lend(form, &mut room, dirt, out);
 }

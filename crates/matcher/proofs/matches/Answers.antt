@@ -7,8 +7,5 @@ pub returns-then-room-lt-ROOM : goal.returns-then-room-lt-ROOM
 unfolding place_bytes
 returns-then-room-lt-ROOM c = search laws.matches_small
 
-pub answer-a-requires : goal.answer-a-requires
-answer-a-requires c = search laws.matches_bound
-
 pub returns : goal.returns
 returns c = search laws.matches_worked

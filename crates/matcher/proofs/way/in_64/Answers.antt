@@ -3,11 +3,11 @@ use borrow.Author.Rules.{rules}
 use Rattle.matcher.proofs.WayLaws as laws
 use Rattle.matcher.proofs.way.in_64.Goals as goal
 
-pub overflow_sub-base : goal.overflow_sub-base
-overflow_sub-base c = search laws.path_short
+pub overflow_sub-r : goal.overflow_sub-r
+overflow_sub-r c = search laws.path_short
 
-pub copy-requires : goal.copy-requires
-copy-requires c = laws.copy_fits c.args.path (search rules) (search rules)
+pub copy_from_slice-requires : goal.copy_from_slice-requires
+copy_from_slice-requires c = laws.copy_fits c.args.path (search rules) (search rules)
 
 pub returns : goal.returns
-returns c = laws.path_placed c.args.path (search rules) (search rules) c.copy.new.dst c.copy.ensures
+returns c = laws.path_placed c.args.path (search rules) (search rules) c.copy_from_slice.new.self c.copy_from_slice.ensures.after

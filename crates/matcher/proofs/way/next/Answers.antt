@@ -12,12 +12,11 @@ look_node-requires-in-Pair c = search laws.node_room
 pub takes_any-requires : goal.takes_any-requires
 takes_any-requires c = (search laws.head_room, search laws.rest_room)
 
-pub below-requires : goal.below-requires
-below-requires c = record {
-  on_way = search rules;
-  ready = (search laws.part_a, search laws.part_b, search laws.part_l, search laws.part_r);
-  ks_value = laws.parts_are _ _ _ _ _ _ _ c.in-Pair.is c.look_node.ensures c.requires _ _ _ c.in-Pair-look_node.is c.look_node-in-Pair.ensures _ c.takes_any.ensures (search rules);
-}
+pub below-requires-clause-ready : goal.below-requires-clause-ready
+below-requires-clause-ready c = (search laws.part_a, search laws.part_b, search laws.part_l, search laws.part_r)
+
+pub below-requires-clause-ks_value : goal.below-requires-clause-ks_value
+below-requires-clause-ks_value c = laws.parts_are _ _ _ _ _ _ _ c.in-Pair.is c.look_node.ensures c.requires _ _ _ c.in-Pair-look_node.is c.look_node-in-Pair.ensures _ c.takes_any.ensures (search rules)
 
 pub returns-in-Atom : goal.returns-in-Atom
 returns-in-Atom c = search laws.atom_stops

@@ -1,13 +1,9 @@
 -- place_node: a turn at a time, at most 511 of them.
-use Prim.Native.Nat.{◌-◌}
 use mathlib.Core.List.{[]}
 use Rattle.meaning.specs.Match as meaning
 use Rattle.store.specs.Nodes.{tree_at}
 use Rattle.matcher.proofs.WayLaws as laws
 use Rattle.matcher.proofs.way.place_node.Given as goal
 
-abbrev pub invariant-loop-turns : goal.invariant-loop-turns
-invariant-loop-turns l = laws.Walking l.form l.initial.room l.room l.ch (meaning.match_sexp (tree_at l.form l.initial.room l.p) (tree_at l.form l.initial.room l.s) []) l.w l.path l.turns
-
-abbrev pub decreases-loop-turns : goal.decreases-loop-turns
-decreases-loop-turns l = 512 - l.turns
+abbrev pub invariant-loop-turn : goal.invariant-loop-turn
+invariant-loop-turn l = laws.Walking l.form l.initial.room l.room l.ch (meaning.match_sexp (tree_at l.form l.initial.room l.p) (tree_at l.form l.initial.room l.s) []) l.w l.path l._turn
