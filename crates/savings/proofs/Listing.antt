@@ -1,9 +1,9 @@
 -- The list: what is made of a form and of a line. Assumes nothing.
-use mathlib.Core.Path.{◌≡◌, refl, sym, ◌∙◌, ap, subst}
+use mathlib.Core.Path.{◌≡◌, refl, ◌∙◌, ap, subst}
 use mathlib.Core.List.{List}
 use mathlib.Core.Bool.{true, false}
+use mathlib.Core.Logic.{◌⊎◌, inl, inr}
 use Prim.Native.Nat.{ℕ}
-use native.Mathlib.Omega.{arith}
 use lib.ListN.{take}
 use Rattle.refusals.specs.declared.Refusal.{Refusal}
 use Rattle.lines.specs.declared.read.Got.{Got}
@@ -24,37 +24,33 @@ use Rattle.savings.specs.Report.{report_text, last_text, form_text, form_after, 
 
 -- ---- work_in
 
+not_full : (c : Column) → (c ≡ Answered) ⊎ ((x : Refusal) × (c ≡ Refused x)) → c ≡ Full → ⊥
+not_full c (inl e) z = cc
+not_full c (inr (x, e)) z = cc
+
 module _ (s : Savings) (form room room₁ : List ℕ) (a : Added) (h : Adds s form room room₁ a) where
   module _ (l : Lines) where
-    pub worked_full : (c : Column) → c ≡ a.column → c ≡ Full → (text text' : List ℕ) (at k : ℕ) → Printed (last_text a.savings) text text' at k
+    pub worked_full : a.column ≡ Full → (text text' : List ℕ) (at k : ℕ) → Printed (last_text a.savings) text text' at k
         → Worked s form room text text' at (record { lines = record { at = l.at; len = l.len; put = k; first = l.first; n = l.n; got = l.got }; savings = a.savings; over = true })
     unfolding form_after form_text
-    worked_full c ec e text text' at k p =
-        let y = full_shut s form room room₁ a h (sym ec ∙ e) in
+    worked_full e text text' at k p =
+        let y = full_shut s form room room₁ a h e in
         record {
           savings = rw (y, form_after) (left s form room room₁ a h y).savings;
           over = rw y refl;
           printed = subst (λ (x : List ℕ). Printed x text text' at k) (ap last_text (left s form room room₁ a h y).savings ∙ rw (y, form_text) refl) p;
         }
 
-    open_worked : (a.column ≡ Full → ⊥) → (text : List ℕ) (at : ℕ)
+    pub worked_open : (a.column ≡ Answered) ⊎ ((x : Refusal) × (a.column ≡ Refused x)) → (text : List ℕ) (at : ℕ)
         → Worked s form room text text at (record { lines = record { at = l.at; len = l.len; put = at; first = l.first; n = l.n; got = l.got }; savings = a.savings; over = false })
     unfolding form_after form_text
-    open_worked e text at =
-        let y = column_open s form room room₁ a h e in
+    worked_open e text at =
+        let y = column_open s form room room₁ a h (not_full a.column e) in
         record {
           savings = rw (y, form_after) (taken s form room room₁ a h y).savings;
           over = rw y refl;
           printed = rw (y, form_text) (nothing text at);
         }
-
-    pub worked_answered : (c : Column) → c ≡ a.column → c ≡ Answered → (text : List ℕ) (at : ℕ)
-        → Worked s form room text text at (record { lines = record { at = l.at; len = l.len; put = at; first = l.first; n = l.n; got = l.got }; savings = a.savings; over = false })
-    worked_answered c ec e text at = open_worked (λ z. let q : Answered ≡ Full = sym e ∙ ec ∙ z in let y : ◌≡◌ {A = ℕ} 0 1 = cc in absurd (omega arith)) text at
-
-    pub worked_refused : (c : Column) → c ≡ a.column → (n : Refusal) → c ≡ Refused n → (text : List ℕ) (at : ℕ)
-        → Worked s form room text text at (record { lines = record { at = l.at; len = l.len; put = at; first = l.first; n = l.n; got = l.got }; savings = a.savings; over = false })
-    worked_refused c ec n e text at = open_worked (λ z. let q : Refused n ≡ Full = sym e ∙ ec ∙ z in let y : ◌≡◌ {A = ℕ} 0 1 = cc in absurd (omega arith)) text at
 
 -- ---- turn
 

@@ -51,6 +51,27 @@ module _ (ns s t : List ℕ) (at k i : ℕ) (a : Refusing ns s t at k i) where
 
 -- ---- one row after another
 
+-- eight numbers, one by one
+eight_numbers : (ns : List ℕ) → length ns ≡ 8 → ns ≡ rule_numbers ns
+eight_numbers (a ∷ b ∷ c ∷ d ∷ e ∷ f ∷ g ∷ h ∷ []) l = refl
+eight_numbers [] l = absurd (omega arith)
+eight_numbers (a ∷ []) l = absurd (omega arith)
+eight_numbers (a ∷ b ∷ []) l = absurd (omega arith)
+eight_numbers (a ∷ b ∷ c ∷ []) l = absurd (omega arith)
+eight_numbers (a ∷ b ∷ c ∷ d ∷ []) l = absurd (omega arith)
+eight_numbers (a ∷ b ∷ c ∷ d ∷ e ∷ []) l = absurd (omega arith)
+eight_numbers (a ∷ b ∷ c ∷ d ∷ e ∷ f ∷ []) l = absurd (omega arith)
+eight_numbers (a ∷ b ∷ c ∷ d ∷ e ∷ f ∷ g ∷ []) l = absurd (omega arith)
+eight_numbers (a ∷ b ∷ c ∷ d ∷ e ∷ f ∷ g ∷ h ∷ i ∷ l) m = absurd (omega arith)
+
+pub eight_same : (ns ms : List ℕ) → length ns ≡ 8 → ((i : ℕ) → i < 8 → get_or ns i 0 ≡ get_or ms i 0) → ns ≡ rule_numbers ms
+eight_same ns ms l h =
+    eight_numbers ns l
+    ∙ rw (h 0 (omega arith), h 1 (omega arith), h 2 (omega arith), h 3 (omega arith), h 4 (omega arith), h 5 (omega arith), h 6 (omega arith), h 7 (omega arith)) refl
+
+pub row_of_rules : (ns ms : List ℕ) → ns ≡ ms → (s t : List ℕ) (at r : ℕ) → Printed (rules_word ++ numbers_line ns) s t at r → Printed (rules_word ++ numbers_line ms) s t at r
+row_of_rules ns ms e s t at r p = rw (← e) p
+
 pub totals_printed : (s : Savings) (t t₁ t₂ t₃ t₄ : List ℕ) (at a b c r : ℕ)
     → Printed (rules_word ++ numbers_line (rule_numbers s.rules)) t₃ t₄ c r
     → Printed (passes_word ++ numbers_line (s.passes ∷ [])) t₂ t₃ b c

@@ -35,10 +35,8 @@ fn print_refused(text: &mut [u8], at: usize, refused: &[u64]) -> usize
     ensures { Printed (refused_text 1 refused.now) text.old text.new at result }
 {
     let mut k = at;
-    let mut i: usize = 0;
-    while i < refused.len() {
-        k = print_row(text, k, b"refused", &[i + 1, refused[i] as usize]);
-        i += 1;
+    for (i, n) in refused.iter().enumerate() {
+        k = print_row(text, k, b"refused", &[i + 1, *n as usize]);
     }
     k
 }
@@ -47,31 +45,20 @@ fn print_refused(text: &mut [u8], at: usize, refused: &[u64]) -> usize
 fn print_totals(text: &mut [u8], at: usize, s: Savings) -> usize
     ensures { Printed (totals_text s) text.old text.new at result }
 {
-    let n = s.rules;
     let a = print_row(text, at, b"marked", &[s.marked as usize]);
     let b = print_row(text, a, b"bytes", &[s.before as usize, s.after as usize]);
     let c = print_row(text, b, b"passes", &[s.passes as usize]);
-    let rules = [
-        n[0] as usize,
-        n[1] as usize,
-        n[2] as usize,
-        n[3] as usize,
-        n[4] as usize,
-        n[5] as usize,
-        n[6] as usize,
-        n[7] as usize,
-    ];
+    let rules = s.rules.map(|n| n as usize);
     print_row(text, c, b"rules", &rules)
 }
 
 fn print_report(text: &mut [u8], at: usize, s: Savings) -> usize
     ensures { Printed (report_text s) text.old text.new at result }
 {
-    let refused = s.refused;
-    let forms = totals::forms_in(s.answered, &refused);
+    let forms = totals::forms_in(s.answered, &s.refused);
     let a = print_row(text, at, b"forms", &[forms as usize]);
     let b = print_row(text, a, b"answered", &[s.answered as usize]);
-    let c = print_refused(text, b, &refused);
+    let c = print_refused(text, b, &s.refused);
     print_totals(text, c, s)
 }
 
@@ -89,33 +76,23 @@ fn print_last(text: &mut [u8], at: usize, s: Savings) -> usize
 fn work_in(form: &[u8], room: &mut [u8], text: &mut [u8], at: usize, t: Listed) -> Listed
     ensures { Worked t.savings form.now room.old text.old text.new at result × (result.lines.got ≡ t.lines.got) × (result.lines.n ≡ t.lines.n) }
 {
-    let s = t.savings;
-    let mut r = t.lines;
-    let a = totals::add_form(form, room, s);
-    let u = a.savings;
-    let c = a.column;
-    match c {
+    let mut lines = t.lines;
+    let a = totals::add_form(form, room, t.savings);
+    let savings = a.savings;
+    match a.column {
         Column::Full => {
-            r.put = print_last(text, at, u);
+            lines.put = print_last(text, at, savings);
             Listed {
-                lines: r,
-                savings: u,
+                lines,
+                savings,
                 over: true,
             }
         }
-        Column::Answered => {
-            r.put = at;
+        Column::Answered | Column::Refused(_) => {
+            lines.put = at;
             Listed {
-                lines: r,
-                savings: u,
-                over: false,
-            }
-        }
-        Column::Refused(_) => {
-            r.put = at;
-            Listed {
-                lines: r,
-                savings: u,
+                lines,
+                savings,
                 over: false,
             }
         }
@@ -134,34 +111,32 @@ fn turn(
     requires { line_most ≤ length text.old }
     ensures { Turned t.savings t.lines.put forms.new room.old text.old text.new result }
 {
-    let l = t.lines;
-    let s = t.savings;
-    let mut r = lines::next_line(input, Spelling::Hex, buf, forms, text, l);
-    let n = r.n;
-    let at = lines::room_for_line(text, r.put);
-    let g = r.got;
-    match g {
+    let savings = t.savings;
+    let mut lines = lines::next_line(input, Spelling::Hex, buf, forms, text, t.lines);
+    let n = lines.n;
+    let at = lines::room_for_line(text, lines.put);
+    match lines.got {
         Got::Form => {
             let next = Listed {
-                lines: r,
-                savings: s,
+                lines,
+                savings,
                 over: false,
             };
             work_in(&forms[..n], room, text, at, next)
         }
         Got::Bad => {
-            r.put = lines::print_no_line(text, at);
+            lines.put = lines::print_no_line(text, at);
             Listed {
-                lines: r,
-                savings: s,
+                lines,
+                savings,
                 over: false,
             }
         }
         Got::End => {
-            r.put = print_report(text, at, s);
+            lines.put = print_report(text, at, savings);
             Listed {
-                lines: r,
-                savings: s,
+                lines,
+                savings,
                 over: true,
             }
         }
@@ -177,15 +152,11 @@ fn list(input: Stdin, buf: &mut [u8], forms: &mut [u8], room: &mut [u8], text: &
         savings: totals::none_yet(),
         over: false,
     };
-    let mut left = u64::MAX;
-    while 0 < left {
+    for _ in 0..u64::MAX {
         t = turn(input, buf, forms, room, text, t);
-        let l = t.lines;
         if t.over {
-            lines::flush(text, l.put);
-            left = 0;
-        } else {
-            left = lines::left(l, left);
+            lines::flush(text, t.lines.put);
+            return;
         }
     }
 }

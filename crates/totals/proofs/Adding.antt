@@ -1,17 +1,19 @@
 -- One form more: each need of the functions that add to a report. Assumes nothing.
-use mathlib.Core.Path.{◌≡◌, refl}
+use mathlib.Core.Path.{◌≡◌, refl, ◌∙◌}
+use native.Mathlib.Decide.{dec_le}
+use Rattle.std.proofs.lemmas.List.{ext_get_or}
 use mathlib.Core.List.{List, [], ◌∷◌}
 use mathlib.Core.Bool.{Bool, true, false, ◌&&◌}
-use Prim.Native.Nat.{ℕ, zero, suc, ◌+◌, ◌-◌, ◌^◌, ◌<◌, ◌≤◌}
+use Prim.Native.Nat.{ℕ, zero, suc, ◌+◌, ◌-◌, ◌^◌, ◌<◌, ◌≤◌, max}
 use native.Mathlib.Omega.{arith}
 use lib.Dec.{ltb}
 use mir.Val.{bool_byte}
-use lib.ListN.{get_or, set}
-use borrow.Author.Tests.{ltb-true, lt-ltb, le-ltb}
+use lib.ListN.{length, get_or, set}
+use borrow.Author.Tests.{ltb-true, le-ltb, ltb-false}
 use Rattle.refusals.specs.declared.Refusal.{Refusal}
 use Rattle.refusals.specs.Numbers.{number_of}
 pub use Rattle.refusals.proofs.Only.{number_least}
-use Rattle.meaning.proofs.Tests.{not_false}
+use Rattle.meaning.proofs.Tests.{not_false, on_bool}
 use Rattle.meaning.specs.Run.{mark_number}
 use Rattle.totals.specs.declared.Savings.{Savings}
 use Rattle.totals.specs.Savings.{form_most, greater, rules_with, with_answer, with_refusal, sum_from, forms_of, small_all, is_open}
@@ -107,20 +109,40 @@ refused_is s r n e = rw e refl
 
 -- ---- greater
 
-pub greater_second : (a b : ℕ) → a < b → b ≡ greater a b
+pub greater_is : (a b : ℕ) → max a b ≡ greater a b
 unfolding greater
-greater_second a b l = rw (lt-ltb a b l)
-
-pub greater_first : (a b : ℕ) → b ≤ a → a ≡ greater a b
-unfolding greater
-greater_first a b l = rw (le-ltb a b l)
+greater_is a b = go (dec_le a b)
+  where
+    go : Dec (a ≤ b) → max a b ≡ greater a b
+    go (yes l) = on_bool (ltb a b) (λ y. let e : max a b ≡ b = omega arith in e ∙ rw y refl) (λ y. let e : max a b ≡ b = omega arith in let i : b ≤ a = ltb-false a b y in let k : b ≡ a = omega arith in e ∙ k ∙ rw y refl)
+    go (no l) = let e : max a b ≡ a = omega (arith, l) in let i : b ≤ a = omega (arith, l) in e ∙ rw (le-ltb a b i) refl
 
 -- ---- with_counts and with_answer
 
-pub counts_are : (n : List ℕ) (c : ℕ → ℕ) (a1 a2 a3 a4 a5 a6 a7 a8 : ℕ) → a1 ≡ get_or n 0 0 + c 1 → a2 ≡ get_or n 1 0 + c 2 → a3 ≡ get_or n 2 0 + c 3 → a4 ≡ get_or n 3 0 + c 4 → a5 ≡ get_or n 4 0 + c 5 → a6 ≡ get_or n 5 0 + c 6 → a7 ≡ get_or n 6 0 + c 7 → a8 ≡ get_or n 7 0 + c 8
-    → a1 ∷ a2 ∷ a3 ∷ a4 ∷ a5 ∷ a6 ∷ a7 ∷ a8 ∷ [] ≡ rules_with n c
+-- the sums below k are counted, and the others stand
+pub record Counting (n : List ℕ) (c : ℕ → ℕ) (sums : List ℕ) (k : ℕ) : Type 0 where
+  pub eight : length sums ≡ 8
+  pub done : (j : ℕ) → j < k → get_or sums j 0 ≡ get_or n j 0 + c (j + 1)
+  pub left : (j : ℕ) → k ≤ j → get_or sums j 0 ≡ get_or n j 0
+
+pub count_fits : (n : List ℕ) → small_all n ≡ true → (c : ℕ → ℕ) (sums : List ℕ) (k : ℕ) → Counting n c sums k → (m : ℕ) → m < 4294967296 → get_or sums k 0 + m < 2 ^ 64
+count_fits n o c sums k h m l = rw (h.left k (omega arith)) (sum_fits (get_or n k 0) m (small_at n k o) l)
+
+pub counts_are : (n : List ℕ) (c : ℕ → ℕ) (sums : List ℕ) (k : ℕ) → k ≡ 8 → Counting n c sums k → sums ≡ rules_with n c
 unfolding rules_with
-counts_are n c a1 a2 a3 a4 a5 a6 a7 a8 e1 e2 e3 e4 e5 e6 e7 e8 = rw (e1, e2, e3, e4, e5, e6, e7, e8) refl
+counts_are n c sums k e h =
+    ext_get_or 0 sums (rules_with n c) h.eight each
+  where
+    each : (i : ℕ) → i < length sums → get_or sums i 0 ≡ get_or (rules_with n c) i 0
+    each zero l = h.done 0 (omega arith)
+    each (suc zero) l = h.done 1 (omega arith)
+    each (suc (suc zero)) l = h.done 2 (omega arith)
+    each (suc (suc (suc zero))) l = h.done 3 (omega arith)
+    each (suc (suc (suc (suc zero)))) l = h.done 4 (omega arith)
+    each (suc (suc (suc (suc (suc zero))))) l = h.done 5 (omega arith)
+    each (suc (suc (suc (suc (suc (suc zero)))))) l = h.done 6 (omega arith)
+    each (suc (suc (suc (suc (suc (suc (suc zero))))))) l = h.done 7 (omega arith)
+    each (suc (suc (suc (suc (suc (suc (suc (suc i)))))))) l = absurd (let z = h.eight in omega (arith, z))
 
 -- a bool as a number is the mark's
 pub mark_byte : (b : Bool) → bool_byte b ≡ mark_number b

@@ -1,13 +1,15 @@
 -- How many forms a report has, and whether it takes another: each need. Assumes nothing.
 use mathlib.Core.Path.{◌≡◌, refl, sym, ◌∙◌, ap}
 use mathlib.Core.List.{List, [], ◌∷◌}
-use mathlib.Core.Bool.{Bool, true, false, not}
-use Prim.Native.Nat.{ℕ, suc, ◌+◌, ◌^◌, ◌<◌, ◌≤◌}
+use mathlib.Core.Bool.{Bool, true, false, ◌&&◌}
+use Prim.Native.Nat.{ℕ, suc, ◌+◌, ◌^◌, ◌<◌, ◌≤◌, min}
+use lib.Dec.{ltb}
+use Rattle.std.specs.List.{list_all}
 use native.Mathlib.Omega.{arith}
 use native.Mathlib.Decide.{dec_le}
 use lib.ListN.{length, get_or, drop}
 use lib.Seq.{drop-cons, drop-length}
-use borrow.Author.Tests.{lt-ltb, le-ltb, not-true, not-false}
+use borrow.Author.Tests.{lt-ltb, le-ltb}
 use Rattle.totals.specs.declared.Savings.{Savings}
 use Rattle.totals.specs.Savings.{form_most, sum_from, forms_of, fewer, small_all, is_open}
 
@@ -20,6 +22,13 @@ fewer_below n l = rw (lt-ltb n form_most l)
 pub fewer_above : (n : ℕ) → 4096 ≤ n → 4096 ≡ fewer n
 unfolding fewer
 fewer_above n l = rw (le-ltb n form_most l)
+
+pub fewer_least : (n : ℕ) → min n 4096 ≡ fewer n
+fewer_least n = go (dec_le 4096 n)
+  where
+    go : Dec (4096 ≤ n) → min n 4096 ≡ fewer n
+    go (yes l) = let e : min n 4096 ≡ 4096 = omega arith in e ∙ fewer_above n l
+    go (no l) = let k : n < 4096 = omega (arith, l) in let e : min n 4096 ≡ n = omega arith in e ∙ fewer_below n k
 
 fewer_most : (n : ℕ) → fewer n ≤ 4096
 fewer_most n = go (dec_le 4096 n)
@@ -104,30 +113,10 @@ module _ (answered : ℕ) (ns : List ℕ) (total i : ℕ) (a : Adding answered n
 
 -- ---- all_small
 
--- those from i on tell what all tell
-pub record Smalls (ns : List ℕ) (i : ℕ) : Type 0 where
-  pub bound : i ≤ length ns
-  pub rest : small_all ns ≡ small_all (drop i ns)
-
-pub small_starts : (ns : List ℕ) → Smalls ns 0
-small_starts ns = record { bound = omega arith; rest = refl }
-
-module _ (ns : List ℕ) (i : ℕ) (a : Smalls ns i) where
-  pub small_not : i < length ns → 9223372036854775808 ≤ get_or ns i 0 → false ≡ small_all ns
-  unfolding small_all
-  small_not l k = sym (a.rest ∙ ap small_all (drop-cons ns i 0 l) ∙ rw (le-ltb (get_or ns i 0) (2 ^ 63) k))
-
-  pub small_next : i < length ns → get_or ns i 0 < 9223372036854775808 → Smalls ns (i + 1)
-  unfolding small_all
-  small_next l k =
-      let z : i + 1 ≡ suc i = omega arith in
-      record { bound = omega arith; rest = rw z (a.rest ∙ ap small_all (drop-cons ns i 0 l) ∙ rw (lt-ltb (get_or ns i 0) (2 ^ 63) k)) }
-
-  pub small_yes : length ns ≤ i → true ≡ small_all ns
-  unfolding small_all
-  small_yes l =
-      let z : i ≡ length ns = omega (arith, a.bound) in
-      sym (a.rest ∙ ap small_all (ap (λ (k : ℕ). drop k ns) z ∙ drop-length ns))
+pub small_each : (ns : List ℕ) → list_all (λ n. ltb n (2 ^ 63)) ns ≡ small_all ns
+unfolding small_all
+small_each [] = refl
+small_each (n ∷ ns) = ap (λ b. ltb n (2 ^ 63) && b) (small_each ns)
 
 -- ---- is_open
 
@@ -148,10 +137,10 @@ module _ (s : Savings) (n : ℕ) (e : n ≡ fewer (sum_from s.answered s.refused
         go (yes k) = let z = fewer_above (sum_from s.answered s.refused) k in absurd (omega (arith, z, e))
         go (no k) = omega (arith, k)
 
-    pub sums_not : (b : Bool) → b ≡ small_all (s.marked ∷ s.before ∷ s.after ∷ s.passes ∷ []) → not b ≡ true → false ≡ is_open s
+    pub sums_not : (b : Bool) → b ≡ small_all (s.marked ∷ s.before ∷ s.after ∷ s.passes ∷ []) → b ≡ false → false ≡ is_open s
     unfolding is_open forms_of
-    sums_not b eb nb = rw (lt-ltb (sum_from s.answered s.refused) form_most below, ← eb, not-true b nb)
+    sums_not b eb nb = rw (lt-ltb (sum_from s.answered s.refused) form_most below, ← eb, nb)
 
-    pub sums_open : (b c : Bool) → b ≡ small_all (s.marked ∷ s.before ∷ s.after ∷ s.passes ∷ []) → not b ≡ false → c ≡ small_all s.rules → c ≡ is_open s
+    pub sums_open : (b c : Bool) → b ≡ small_all (s.marked ∷ s.before ∷ s.after ∷ s.passes ∷ []) → b ≡ true → c ≡ small_all s.rules → c ≡ is_open s
     unfolding is_open forms_of
-    sums_open b c eb nb ec = rw (lt-ltb (sum_from s.answered s.refused) form_most below, ← eb, not-false b nb, ← ec)
+    sums_open b c eb nb ec = rw (lt-ltb (sum_from s.answered s.refused) form_most below, ← eb, nb, ← ec)

@@ -75,7 +75,7 @@ pub fn none_yet() -> Savings
 fn fewer(n: u64) -> u64
     ensures { result ≡ fewer n }
 {
-    if n < FORMS { n } else { FORMS }
+    n.min(FORMS)
 }
 
 // How many forms stand in a report; 4,096 where there are more.
@@ -83,10 +83,8 @@ pub fn forms_in(answered: u64, refused: &[u64]) -> u64
     ensures { result ≡ fewer (sum_from answered refused.now) }
 {
     let mut total = fewer(answered);
-    let mut i: usize = 0;
-    while i < refused.len() {
-        total = fewer(total + fewer(refused[i]));
-        i += 1;
+    for n in refused {
+        total = fewer(total + fewer(*n));
     }
     total
 }
@@ -94,28 +92,15 @@ pub fn forms_in(answered: u64, refused: &[u64]) -> u64
 fn all_small(ns: &[u64]) -> bool
     ensures { result ≡ small_all ns.now }
 {
-    let mut i: usize = 0;
-    while i < ns.len() {
-        if LARGE <= ns[i] {
-            return false;
-        }
-        i += 1;
-    }
-    true
+    ns.iter().all(|n| *n < LARGE)
 }
 
 fn is_open(s: Savings) -> bool
     ensures { result ≡ is_open s }
 {
-    let refused = s.refused;
-    if FORMS <= forms_in(s.answered, &refused) {
-        return false;
-    }
-    let rules = s.rules;
-    if !all_small(&[s.marked, s.before, s.after, s.passes]) {
-        return false;
-    }
-    all_small(&rules)
+    forms_in(s.answered, &s.refused) < FORMS
+        && all_small(&[s.marked, s.before, s.after, s.passes])
+        && all_small(&s.rules)
 }
 
 // ---- one form more
@@ -125,41 +110,20 @@ fn with_refusal(s: Savings, e: Refusal) -> Savings
     ensures { result ≡ with_refusal s e }
 {
     let mut t = s;
-    let mut refused = s.refused;
-    let k = refusals::number_of(e) as usize - 1;
-    refused[k] = refused[k] + 1;
-    t.refused = refused;
+    t.refused[refusals::number_of(e) as usize - 1] += 1;
     t
 }
 
-// A sum of a rule's, with what the row has counted of it.
-fn with_count(n: u64, row: &[Record], k: usize) -> u64
-    requires { (n < 2 ^ 63) × (count_records ≤ length row.now) × (0 < k) × (k ≤ count_records) }
-    ensures { result ≡ n + count_in row.now k }
-{
-    n + run_state::count_in(row, k) as u64
-}
-
+// Each rule's sum, with what the row has counted of it.
 fn with_counts(n: [u64; 8], row: &[Record]) -> [u64; 8]
     requires { (small_all n ≡ true) × (count_records ≤ length row.now) }
     ensures { result ≡ rules_with n (count_in row.now) }
 {
-    [
-        with_count(n[0], row, 1),
-        with_count(n[1], row, 2),
-        with_count(n[2], row, 3),
-        with_count(n[3], row, 4),
-        with_count(n[4], row, 5),
-        with_count(n[5], row, 6),
-        with_count(n[6], row, 7),
-        with_count(n[7], row, 8),
-    ]
-}
-
-fn greater(a: u64, b: u64) -> u64
-    ensures { result ≡ greater a b }
-{
-    if a < b { b } else { a }
+    let mut sums = n;
+    for k in 0..8 {
+        sums[k] += run_state::count_in(row, k + 1) as u64;
+    }
+    sums
 }
 
 // The numbers of an answered form.
@@ -175,16 +139,15 @@ fn with_answer(s: Savings, a: Numbers, row: &[Record]) -> Savings
     requires { (is_open s ≡ true) × (a.before ≤ 32768) × (a.after ≤ 32768) × (count_records ≤ length row.now) }
     ensures { result ≡ with_answer s a.before a.after a.passes (mark_number a.mark) (count_in row.now) }
 {
-    let rules = s.rules;
-    let refused = s.refused;
+    let rules = with_counts(s.rules, row);
     Savings {
         answered: s.answered + 1,
-        refused: refused,
         marked: s.marked + a.mark as u64,
         before: s.before + a.before as u64,
         after: s.after + a.after as u64,
-        passes: greater(s.passes, a.passes as u64),
-        rules: with_counts(rules, row),
+        passes: s.passes.max(a.passes as u64),
+        rules,
+        ..s
     }
 }
 
@@ -192,15 +155,14 @@ fn refused(s: Savings, e: Refusal) -> Added
     requires { (is_open s ≡ true) × (number_of e ≤ 14) }
     ensures { (result.savings ≡ with_refusal s e) × (result.column ≡ Refused e) }
 {
-    let t = with_refusal(s, e);
     Added {
-        savings: t,
+        savings: with_refusal(s, e),
         column: Column::Refused(e),
     }
 }
 
 // The report after the form's work. The finished tree is measured, not written.
-fn place<'a>(form: &'a [u8], room: &'a [u8], row: &'a [Record], x: Finished, s: Savings) -> Added
+fn place(form: &[u8], room: &[u8], row: &[Record], x: Finished, s: Savings) -> Added
     requires { (is_open s ≡ true) × WorkedOk form.now room.now x × (count_records ≤ length row.now) × Counted row.now (ends_in form.now) }
     ensures { Placed s form.now (ended (deliver_run output_most) (worked form.now)) result }
 {
@@ -239,8 +201,8 @@ pub fn add_form(form: &[u8], room: &mut [u8], s: Savings) -> Added
         return refused(s, Refusal::RoomSmall);
     }
     let mut row = [[0u16; 6]; 256];
-    let x = optimiser::worked_noting(form, room, &mut row[..], Notes::Counts);
-    let a = place(form, room, &row[..], x, s);
+    let x = optimiser::worked_noting(form, room, &mut row, Notes::Counts);
+    let a = place(form, room, &row, x, s);
     store::zero_room(room);
     a
 }

@@ -7,7 +7,4 @@ pub returns-in-Full : goal.returns-in-Full
 returns-in-Full c = (search listing.worked_full, refl, refl)
 
 pub returns-in-Answered : goal.returns-in-Answered
-returns-in-Answered c = (search listing.worked_answered, refl, refl)
-
-pub returns-in-Refused : goal.returns-in-Refused
-returns-in-Refused c = (search listing.worked_refused, refl, refl)
+returns-in-Answered c = (search listing.worked_open, refl, refl)

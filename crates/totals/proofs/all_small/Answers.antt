@@ -1,15 +1,11 @@
--- all_small: one line a need; the laws are in Summing.
+-- all_small: the law is in Summing.
+use Rattle.std.proofs.Common.{◌^◌, ◌∙◌, ltb, rules, tests}
+use Rattle.std.proofs.lemmas.Iterator.{YieldsList-from_slice}
+use Rattle.std.proofs.lemmas.Iterator.Search.{all_from_yields_List}
 use Rattle.totals.proofs.Summing as summing
 use Rattle.totals.proofs.all_small.Goals as goal
 
-pub loop-i-init : goal.loop-i-init
-loop-i-init c = search summing.small_starts
-
-pub returns-then-ns-i-ge-LARGE : goal.returns-then-ns-i-ge-LARGE
-returns-then-ns-i-ge-LARGE c = search summing.small_not
-
-pub loop-i-preserved : goal.loop-i-preserved
-loop-i-preserved c = search summing.small_next
-
 pub returns : goal.returns
-returns c = search summing.small_yes
+returns c =
+    all_from_yields_List (λ n. ltb n (2 ^ 63)) _ _ c.all.result c.all.ensures.ran (YieldsList-from_slice c.args.ns.now cc) (λ x b q k. search (rules, tests))
+    ∙ summing.small_each c.args.ns.now

@@ -1,9 +1,7 @@
--- fewer: the laws are in Summing.
+-- fewer: the law is in Summing.
+use mathlib.Core.Path.{◌∙◌}
 use Rattle.totals.proofs.Summing as summing
 use Rattle.totals.proofs.fewer.Goals as goal
 
-pub returns-then-n-lt-FORMS : goal.returns-then-n-lt-FORMS
-returns-then-n-lt-FORMS c = search summing.fewer_below
-
-pub returns-else-n-lt-FORMS : goal.returns-else-n-lt-FORMS
-returns-else-n-lt-FORMS c = search summing.fewer_above
+pub returns : goal.returns
+returns c = c.min.ensures ∙ summing.fewer_least c.args.n
