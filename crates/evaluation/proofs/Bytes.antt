@@ -1,5 +1,6 @@
 -- work, deliver and evaluate: what each call and each return needs. Assumes nothing.
 use Rattle.std.specs.Prelude.{Result, Ok, Err, Option, Some, None}
+use Rattle.std.specs.Option.{ok_or}
 use Prim.Native.Nat.{ℕ, ◌<◌, ◌≤◌}
 use mathlib.Core.Path.{◌≡◌, refl, ◌∙◌, ap}
 use mathlib.Core.List.{List, [], ◌∷◌}
@@ -112,9 +113,12 @@ module _ (f s₁ : List ℕ) (o : Out Steps Tree) (a : Result Valued Refusal) (h
       abbrev counts : List ℕ
       counts = m.steps ∷ m.ch.units ∷ []
 
-      pub deliver_short : r ≡ None → Delivers says (ended (delivered (length w)) o) w w₁ (Err OutputShort)
+      pub deliver_short : (n : Refusal) → Err n ≡ ok_or r OutputShort → r ≡ None → Delivers says (ended (delivered (length w)) o) w w₁ (Err n)
       unfolding delivered says
-      deliver_short i = ended_done says (delivered (length w)) o (tree_at f s₁ q) (state m) w w₁ _ value.is (tree_short says (tree_at f s₁ q) counts w w₁ r d (Err OutputShort) refl i)
+      deliver_short n v i =
+          let y : ◌≡◌ {A = Result ℕ Refusal} (Err n) (Err OutputShort) = rw i at v in
+          let j : n ≡ OutputShort = cc in
+          rw j (ended_done says (delivered (length w)) o (tree_at f s₁ q) (state m) w w₁ _ value.is (tree_short says (tree_at f s₁ q) counts w w₁ r d (Err OutputShort) refl i))
 
       pub deliver_done : (k : ℕ) → r ≡ Some k → Delivers says (ended (delivered (length w)) o) w w₁ (Ok (record { length = k; steps = m.steps; units = m.ch.units }))
       unfolding delivered says

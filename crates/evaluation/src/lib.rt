@@ -40,14 +40,12 @@ fn deliver(
     ensures { Delivers says (ended (delivered (length out.old)) (worked (take first forms.now) (drop first forms.now))) out.old out.new result }
 {
     let Valued { node, meter } = work(forms, room, first)?;
-    match form::deliver_node(forms, room, node, out) {
-        Some(length) => Ok(Evaluated {
-            length,
-            steps: meter.steps,
-            units: meter.ch.units,
-        }),
-        None => Err(Refusal::OutputShort),
-    }
+    let length = form::deliver_node(forms, room, node, out).ok_or(Refusal::OutputShort)?;
+    Ok(Evaluated {
+        length,
+        steps: meter.steps,
+        units: meter.ch.units,
+    })
 }
 
 // The value of the program, the first bytes, in the environment, what follows them. The room is all zero after, but for refusal 1.

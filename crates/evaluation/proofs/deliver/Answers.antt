@@ -9,8 +9,8 @@ deliver_node-requires c = search (laws.value_writable, c.in_ok-node.was)
 pub returns-in_err-node : goal.returns-in_err-node
 returns-in_err-node c = let p = err_from_is_err_and c.from_residual.result c.from_residual.ensures.1 in rw (p.1, p.2) (search (laws.deliver_refused, c.in_err-node.was))
 
-pub returns-in-None : goal.returns-in-None
-returns-in-None c = search (laws.deliver_short, c.in_ok-node.was)
+pub returns-in_err-length : goal.returns-in_err-length
+returns-in_err-length c = let p = err_from_is_err_and c.from_residual-in_err-length.result c.from_residual-in_err-length.ensures.1 in rw (p.1, p.2) (search (laws.deliver_short, c.in_ok-node.was, c.in_err-length.ensures.value, c.in_err-length.ensures.ok_part))
 
-pub returns-in-Some : goal.returns-in-Some
-returns-in-Some c = search (laws.deliver_done, c.in_ok-node.was)
+pub returns : goal.returns
+returns c = search (laws.deliver_done, c.in_ok-node.was, c.in_ok-length.ensures.ok_part)
