@@ -1,5 +1,6 @@
 -- Evaluation on bytes alone: from the bytes of both forms, and the lengths of the lent room and output, to the outcome.
-use Rattle.std.specs.Prelude.{ℕ, List, [], ◌∷◌, take, drop}
+use Rattle.std.specs.Prelude.{ℕ, List, [], ◌∷◌, take, drop, Result, Ok, Err}
+use Rattle.refusals.specs.declared.Refusal.{Refusal}
 use Rattle.refusals.specs.Numbers.{number_of}
 use Rattle.meaning.specs.Tree.{Tree}
 use Rattle.meaning.specs.Meter.{Out, done, stop, Steps}
@@ -7,8 +8,7 @@ use Rattle.meaning.specs.Evaluate.{evaluate}
 use Rattle.meaning.specs.Form.{Reading}
 use Rattle.meaning.specs.Outcome.{Outcome, plain, deliver_tree, ended, in_room, Told, values, number}
 use Rattle.form.specs.Both.{Both, read_both}
-use Rattle.evaluation.specs.declared.EvalAnswer.{EvalAnswer}
-use Rattle.evaluation.specs.declared.EvalAnswer.TheVariants.{Value, Refused}
+use Rattle.evaluation.specs.declared.Evaluated.{Evaluated}
 
 -- no step is taken yet
 abbrev pub at_units : ℕ → Steps
@@ -36,6 +36,6 @@ unfolding worked delivered ended in_room
 outcome forms first room-length out-length = in_room room-length (ended (delivered out-length) (worked (take first forms) (drop first forms)))
 
 -- what `evaluate` says: length, steps and units
-unfoldable pub says : EvalAnswer → Told
-says (Value count steps units) = values plain (count ∷ steps ∷ units ∷ [])
-says (Refused n) = number (number_of n)
+unfoldable pub says : Result Evaluated Refusal → Told
+says (Ok a) = values plain (a.length ∷ a.steps ∷ a.units ∷ [])
+says (Err n) = number (number_of n)

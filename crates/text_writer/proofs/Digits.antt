@@ -8,7 +8,6 @@ use lib.ListN.{length, take, drop, get_or, set, length-set}
 use lib.Seq.{drop-cons, take-suc, take-length, length-take-le}
 use mir.Syntax.{w64}
 use mir.Val.{Fits}
-use borrow.Author.Tests.{lt-ltb, le-ltb}
 use Rattle.notation.specs.Words.{hex_digit, hex}
 use Rattle.form.specs.Writes.{Wrote}
 

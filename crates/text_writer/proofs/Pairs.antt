@@ -1,4 +1,5 @@
 -- What each return of the writer of a node's text needs. Assumes nothing.
+use Rattle.std.specs.Prelude.{Option, Some, None}
 use mathlib.Core.Path.{◌≡◌, refl, sym, ◌∙◌, ap}
 use mathlib.Core.List.{List, [], ◌∷◌, ◌++◌}
 use mathlib.Core.Bool.{Bool, true, false}
@@ -18,19 +19,17 @@ use Rattle.store.proofs.Trees.{tree_pair, tree_atom}
 use Rattle.notation.specs.declared.Place.{Place}
 use Rattle.notation.specs.declared.Place.TheVariants.{Code}
 use Rattle.notation.specs.Texts.{after, text_at, text_rest, text_of}
-use Rattle.form.specs.declared.Extent.{Extent}
-use Rattle.form.specs.declared.Extent.TheVariants.{Long, Over}
 use Rattle.form.specs.Writes.{Short, Writable, Wrote, extent, Delivered}
 use Rattle.form.proofs.Lend.{lent, back, lent_length, back_length, one_set, wrote_length, then_wrote}
 use Rattle.form.proofs.Writer.{extent_over, extent_long, Is, writable_left}
 use Rattle.form.proofs.Delivering as delivering
 use Rattle.text_writer.specs.Parts.{part_text, part_place, first_byte}
 
-extent_fits : (limit n : ℕ) → n ≤ limit → extent limit n ≡ Long n
+extent_fits : (limit n : ℕ) → n ≤ limit → extent limit n ≡ Some n
 unfolding extent
 extent_fits limit n h = rw (le-leb n limit h, extent)
 
-extent_more : (limit n : ℕ) → limit < n → extent limit n ≡ Over
+extent_more : (limit n : ℕ) → limit < n → extent limit n ≡ None
 unfolding extent
 extent_more limit n h = rw (lt-leb n limit h, extent)
 
@@ -54,7 +53,7 @@ module _ (f s : List ℕ) (n l r : ℕ) (c : Cell) (ep : c ≡ Pair l r) (ec : c
     some_text : 0 < length (part_text rest (tree_at f s n) p)
     some_text = rw pair_is (omega arith)
 
-    pub length_none : (limit : ℕ) → limit ≡ 0 → Over ≡ extent limit (length (part_text rest (tree_at f s n) p))
+    pub length_none : (limit : ℕ) → limit ≡ 0 → None ≡ extent limit (length (part_text rest (tree_at f s n) p))
     length_none limit h = sym (extent_more limit (length (part_text rest (tree_at f s n) p)) (omega (arith, some_text)))
 
     -- its first part stands at q
@@ -67,11 +66,11 @@ module _ (f s : List ℕ) (n l r : ℕ) (c : Cell) (ep : c ≡ Pair l r) (ec : c
           let e : length (part_text rest (tree_at f s n) p) ≡ suc (length (part_text false (tree_at f s l) q ++ part_text true (tree_at f s r) (after q (tree_at f s l)))) = rw at_place in
           omega (arith, length-append (part_text false (tree_at f s l) q) (part_text true (tree_at f s r) (after q (tree_at f s l))))
 
-      module _ (limit : ℕ) (a : Extent) (ea : a ≡ extent (limit - 1) (length (part_text false (tree_at f s l) q))) (h : limit ≡ 0 → ⊥) where
-        pub length_left : a ≡ Over → Over ≡ extent limit (length (part_text rest (tree_at f s n) p))
+      module _ (limit : ℕ) (a : Option ℕ) (ea : a ≡ extent (limit - 1) (length (part_text false (tree_at f s l) q))) (h : limit ≡ 0 → ⊥) where
+        pub length_left : a ≡ None → None ≡ extent limit (length (part_text rest (tree_at f s n) p))
         length_left e = sym (extent_more limit (length (part_text rest (tree_at f s n) p)) (omega (arith, pair_length, extent_over (limit - 1) (length (part_text false (tree_at f s l) q)) a ea e)))
 
-        module _ (k : ℕ) (ek : a ≡ Long k) where
+        module _ (k : ℕ) (ek : a ≡ Some k) where
           left : Is (limit - 1) (length (part_text false (tree_at f s l) q)) k
           left = extent_long (limit - 1) (length (part_text false (tree_at f s l) q)) k a ea ek
 
@@ -85,15 +84,15 @@ module _ (f s : List ℕ) (n l r : ℕ) (c : Cell) (ep : c ≡ Pair l r) (ec : c
           left_sum g = record { fits = omega (arith, left_within) }
 
           -- what follows it stands at o
-          module _ (o : Place) (eo : o ≡ after q (tree_at f s l)) (b : Extent) (eb : b ≡ extent (limit - (1 + k)) (length (part_text true (tree_at f s r) o))) where
+          module _ (o : Place) (eo : o ≡ after q (tree_at f s l)) (b : Option ℕ) (eb : b ≡ extent (limit - (1 + k)) (length (part_text true (tree_at f s r) o))) where
             both_length : length (part_text rest (tree_at f s n) p) ≡ 1 + k + length (part_text true (tree_at f s r) o)
             both_length = rw eo (omega (arith, pair_length, left.same))
 
-            pub length_right : b ≡ Over → Over ≡ extent limit (length (part_text rest (tree_at f s n) p))
+            pub length_right : b ≡ None → None ≡ extent limit (length (part_text rest (tree_at f s n) p))
             length_right e = sym (extent_more limit (length (part_text rest (tree_at f s n) p))
                 (omega (arith, both_length, left_within, extent_over (limit - (1 + k)) (length (part_text true (tree_at f s r) o)) b eb e)))
 
-            module _ (m : ℕ) (em : b ≡ Long m) where
+            module _ (m : ℕ) (em : b ≡ Some m) where
               right : Is (limit - (1 + k)) (length (part_text true (tree_at f s r) o)) m
               right = extent_long (limit - (1 + k)) (length (part_text true (tree_at f s r) o)) m b eb em
 
@@ -103,7 +102,7 @@ module _ (f s : List ℕ) (n l r : ℕ) (c : Cell) (ep : c ≡ Pair l r) (ec : c
               pub both_sum : limit < 2 ^ 64 → Fits w64 (1 + k + m)
               both_sum g = record { fits = omega (arith, both_within) }
 
-              pub length_pair : Long (1 + k + m) ≡ extent limit (length (part_text rest (tree_at f s n) p))
+              pub length_pair : Some (1 + k + m) ≡ extent limit (length (part_text rest (tree_at f s n) p))
               length_pair =
                   let z : length (part_text rest (tree_at f s n) p) ≡ 1 + k + m = omega (arith, both_length, right.same) in
                   sym (ap (extent limit) z ∙ extent_fits limit (1 + k + m) both_within)
@@ -123,10 +122,10 @@ module _ (f s b : List ℕ) (n : ℕ) (c : Cell) (ep : c ≡ Atom) (ec : c ≡ c
     end_length = rw is_atom
 
     module _ (limit k : ℕ) (e : k ≡ length (part_text rest (atom b) p)) where
-      pub length_over : limit < k → Over ≡ extent limit (length (part_text rest (tree_at f s n) p))
+      pub length_over : limit < k → None ≡ extent limit (length (part_text rest (tree_at f s n) p))
       length_over h = sym (extent_more limit (length (part_text rest (tree_at f s n) p)) (omega (arith, end_length)))
 
-      pub length_atom : k ≤ limit → Long k ≡ extent limit (length (part_text rest (tree_at f s n) p))
+      pub length_atom : k ≤ limit → Some k ≡ extent limit (length (part_text rest (tree_at f s n) p))
       length_atom h = let z : length (part_text rest (tree_at f s n) p) ≡ k = omega (arith, end_length) in sym (ap (extent limit) z ∙ extent_fits limit k h)
 
     pub atom_fits : (out : List ℕ) → length (part_text rest (tree_at f s n) p) ≤ length out → length (part_text rest (atom b) p) ≤ length out
@@ -174,14 +173,14 @@ module _ (f s out : List ℕ) (n l r x : ℕ) (p q o : Place) (rest : Bool) (c :
 
 -- ---- delivered
 
-module _ (t : Tree) (out : List ℕ) (r : Extent) (e : r ≡ extent (length out) (length (part_text false t Code))) where
-  pub none_written : r ≡ Over → Delivered (text_of t) out out Over
+module _ (t : Tree) (out : List ℕ) (r : Option ℕ) (e : r ≡ extent (length out) (length (part_text false t Code))) where
+  pub none_written : r ≡ None → Delivered (text_of t) out out None
   unfolding part_text text_of
   none_written i = delivering.none_written (part_text false t Code) out r e i
 
-  pub all_fits : (m : ℕ) → r ≡ Long m → length (part_text false t Code) ≤ length out
+  pub all_fits : (m : ℕ) → r ≡ Some m → length (part_text false t Code) ≤ length out
   all_fits m i = delivering.all_fits (part_text false t Code) out r e m i
 
-  pub all_written : (out₁ : List ℕ) (k m : ℕ) → Wrote (part_text false t Code) k out out₁ → r ≡ Long m → Delivered (text_of t) out out₁ (Long k)
+  pub all_written : (out₁ : List ℕ) (k m : ℕ) → Wrote (part_text false t Code) k out out₁ → r ≡ Some m → Delivered (text_of t) out out₁ (Some k)
   unfolding part_text text_of
   all_written out₁ k m h i = delivering.all_written (part_text false t Code) out r e out₁ k m h i

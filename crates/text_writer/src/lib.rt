@@ -12,7 +12,6 @@ ghost use Rattle.store.specs.Store.{atom_most};
 ghost use Rattle.form.specs.Writes.{Writable, Wrote, extent, Delivered};
 ghost use Rattle.text_writer.specs.Parts.{part_text, part_place, first_byte, has_name};
 
-use form::Extent;
 use notation::{NAMES, Place, is_one};
 use store::Cell;
 
@@ -204,35 +203,23 @@ pub fn length_text<'a>(
     p: Place,
     rest: bool,
     limit: usize,
-) -> Extent
+) -> Option<usize>
     requires { Writable form.now room.now n }
     ensures { result ≡ extent limit (length (part_text rest (tree_in form.now room.now n) p)) }
 {
     match store::look_node(room, n) {
         Cell::Pair(l, r) => {
             if limit == 0 {
-                return Extent::Over;
+                return None;
             }
             let q = part_place(p, rest);
-            match length_text(form, room, l, q, false, limit - 1) {
-                Extent::Over => Extent::Over,
-                Extent::Long(a) => {
-                    let k = 1 + a;
-                    let o = after(form, room, l, q);
-                    match length_text(form, room, r, o, true, limit - k) {
-                        Extent::Over => Extent::Over,
-                        Extent::Long(b) => Extent::Long(k + b),
-                    }
-                }
-            }
+            let k = 1 + length_text(form, room, l, q, false, limit - 1)?;
+            let o = after(form, room, l, q);
+            Some(k + length_text(form, room, r, o, true, limit - k)?)
         }
         Cell::Atom => {
             let k = end_length(p, rest, store::atom_bytes(form, room, n));
-            if limit < k {
-                Extent::Over
-            } else {
-                Extent::Long(k)
-            }
+            if limit < k { None } else { Some(k) }
         }
     }
 }
@@ -262,12 +249,10 @@ pub fn write_text<'a>(
 }
 
 // Writes the text of node n to the front of out where it fits: measured first, so that refusal 14 leaves the output as it came in.
-pub fn deliver_text<'a>(form: &'a [u8], room: &'a [u8], n: usize, out: &mut [u8]) -> Extent
+pub fn deliver_text<'a>(form: &'a [u8], room: &'a [u8], n: usize, out: &mut [u8]) -> Option<usize>
     requires { Writable form.now room.now n }
     ensures { Delivered (text_of (tree_in form.now room.now n)) out.old out.new result }
 {
-    match length_text(form, room, n, Place::Code, false, out.len()) {
-        Extent::Over => Extent::Over,
-        Extent::Long(_) => Extent::Long(write_text(form, room, n, Place::Code, false, out)),
-    }
+    length_text(form, room, n, Place::Code, false, out.len())?;
+    Some(write_text(form, room, n, Place::Code, false, out))
 }

@@ -1,9 +1,16 @@
 -- deliver: an answer for each need; what carries weight stands in the laws.
 use Rattle.evaluation.proofs.Bytes as laws
+use Rattle.std.proofs.lemmas.Result.{err_from_is_err_and}
 use Rattle.evaluation.proofs.deliver.Goals as goal
 
-pub returns-in-Over : goal.returns-in-Over
-returns-in-Over c = search laws.deliver_short
+pub deliver_node-requires : goal.deliver_node-requires
+deliver_node-requires c = search (laws.value_writable, c.in_ok-node.was)
 
-pub returns-in-Long : goal.returns-in-Long
-returns-in-Long c = search laws.deliver_done
+pub returns-in_err-node : goal.returns-in_err-node
+returns-in_err-node c = let p = err_from_is_err_and c.from_residual.result c.from_residual.ensures.1 in rw (p.1, p.2) (search (laws.deliver_refused, c.in_err-node.was))
+
+pub returns-in_err-length : goal.returns-in_err-length
+returns-in_err-length c = let p = err_from_is_err_and c.from_residual-in_err-length.result c.from_residual-in_err-length.ensures.1 in rw (p.1, p.2) (search (laws.deliver_short, c.in_ok-node.was, c.in_err-length.ensures.value, c.in_err-length.ensures.ok_part))
+
+pub returns : goal.returns
+returns c = search (laws.deliver_done, c.in_ok-node.was, c.in_ok-length.ensures.ok_part)

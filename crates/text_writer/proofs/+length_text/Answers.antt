@@ -10,31 +10,31 @@ pub length_text-requires : goal.length_text-requires
 length_text-requires t c = (search parts.falls_left, search parts.writable_left)
 
 pub overflow_add-k : goal.overflow_add-k
-overflow_add-k t c = search laws.left_sum
+overflow_add-k t c = search (laws.left_sum, c.in_ok-k-in-Pair.was)
 
 pub after-o-requires : goal.after-o-requires
 after-o-requires t c = search laws.room_left
 
-pub overflow_sub-limit-in-Long : goal.overflow_sub-limit-in-Long
-overflow_sub-limit-in-Long t c = search laws.left_within
+pub overflow_sub-limit-in-Pair : goal.overflow_sub-limit-in-Pair
+overflow_sub-limit-in-Pair t c = search (laws.left_within, c.in_ok-k-in-Pair.was)
 
-pub length_text-requires-in-Long : goal.length_text-requires-in-Long
-length_text-requires-in-Long t c = (search parts.falls_right, search parts.writable_right)
+pub length_text-requires-in-Pair : goal.length_text-requires-in-Pair
+length_text-requires-in-Pair t c = (search parts.falls_right, search parts.writable_right)
 
 pub overflow_add-result : goal.overflow_add-result
-overflow_add-result t c = search laws.both_sum
+overflow_add-result t c = search (laws.both_sum, c.in_ok-k-in-Pair.was, c.in_ok-length_text-in-Pair.was)
 
 pub end_length-k-requires : goal.end_length-k-requires
 end_length-k-requires t c = search laws.atom_few
 
-pub returns-in-Over : goal.returns-in-Over
-returns-in-Over t c = search laws.length_left
+pub returns-in_err-k-in-Pair : goal.returns-in_err-k-in-Pair
+returns-in_err-k-in-Pair t c = rw c.from_residual.ensures (search (laws.length_left, c.in_err-k-in-Pair.was))
 
-pub returns-in-Over-length_text : goal.returns-in-Over-length_text
-returns-in-Over-length_text t c = search laws.length_right
+pub returns-in_err-length_text-in-Pair : goal.returns-in_err-length_text-in-Pair
+returns-in_err-length_text-in-Pair t c = rw c.from_residual-in_err-length_text-in-Pair.ensures (search (laws.length_right, c.in_ok-k-in-Pair.was, c.in_err-length_text-in-Pair.was))
 
-pub returns-in-Long-length_text : goal.returns-in-Long-length_text
-returns-in-Long-length_text t c = search laws.length_pair
+pub returns-in_ok-length_text-in-Pair : goal.returns-in_ok-length_text-in-Pair
+returns-in_ok-length_text-in-Pair t c = search (laws.length_pair, c.in_ok-k-in-Pair.was, c.in_ok-length_text-in-Pair.was)
 
 pub returns-then-limit-k : goal.returns-then-limit-k
 returns-then-limit-k t c = search laws.length_over
