@@ -7,9 +7,9 @@ use mathlib.Core.Option.{Option, none, some}
 use Prim.Native.Nat.{ℕ, ◌-◌, ◌<◌, ◌≤◌}
 use native.Mathlib.Omega.{arith}
 use lib.ListN.{get_or, length}
-use lib.Dec.{eqb, leb, ltb}
-use borrow.Author.Tests.{eq-eqb, le-leb, lt-leb, leb-true, ltb-true, ltb-false}
-use Rattle.meaning.proofs.Tests.{eqb_sound, on_bool, and_inv, not_true, not_false}
+use lib.Dec.{eqb, leb}
+use borrow.Author.Tests.{eq-eqb, le-leb, lt-leb, leb-true}
+use Rattle.meaning.proofs.Tests.{eqb_sound, on_bool, and_inv, not_false}
 use Rattle.notation.specs.declared.Place.{Place}
 use Rattle.notation.specs.declared.Place.TheVariants.{Operator, Code, Data}
 use Rattle.notation.specs.Words.{names, name_of, name_at, hex, atom_text}
