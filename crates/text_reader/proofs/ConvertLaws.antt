@@ -1,7 +1,6 @@
 -- What each return of the whole needs: the machine's form is read as the text is. Assumes nothing.
 use mathlib.Core.Path.{◌≡◌, refl, sym, ◌∙◌, ap, subst}
 use mathlib.Core.List.{List, [], ◌∷◌, ◌++◌, append_assoc}
-use mathlib.Core.Bool.{Bool, true, false}
 use mathlib.Core.Option.{none, some}
 use Prim.Native.Nat.{ℕ, suc, ◌+◌, ◌-◌, ◌<◌, ◌≤◌}
 use native.Mathlib.Omega.{arith}
@@ -22,7 +21,6 @@ use Rattle.text_reader.specs.declared.machine.Frame.{Frame}
 use Rattle.text_reader.specs.declared.machine.Reading.{Reading}
 use Rattle.text_reader.specs.declared.machine.Turn.{Turn}
 use Rattle.text_reader.specs.declared.machine.Turn.TheVariants.{Goes, Done, Fails}
-use Rattle.text_reader.specs.declared.convert.Converted.{Converted}
 use Rattle.text_reader.specs.declared.convert.Converted.TheVariants.{Form, Refused}
 use Rattle.text_reader.specs.declared.convert.Fault.TheVariants.{At, Nowhere, Long}
 use Rattle.std.specs.Prelude.{Result, Ok, Err, Some, None}

@@ -3,7 +3,7 @@ use Rattle.std.specs.Prelude.{ℕ, ◌≤◌, ◌<◌, ◌≡◌, List, [], ◌+
 use Rattle.std.specs.Prelude.{Option as Maybe}
 use Rattle.std.proofs.Math.Option.{Option, none, some}
 use Rattle.refusals.specs.declared.Refusal.{Refusal}
-use Rattle.refusals.specs.declared.Refusal.TheVariants.{FormLong, NoParse}
+use Rattle.refusals.specs.declared.Refusal.TheVariants.{NoParse}
 use Rattle.meaning.specs.Limits.{form_limit}
 use Rattle.meaning.specs.Form.{read_form}
 use Rattle.meaning.specs.Meter.{Out, done, stop}
