@@ -23,7 +23,7 @@ fn print_ok(answer: &[u8], text: &mut [u8], at: usize) -> usize
 }
 
 // The same, and the numbers that are told behind its length.
-fn print_answer<'a>(answer: &'a [u8], numbers: &'a [usize], text: &mut [u8], at: usize) -> usize
+fn print_answer(answer: &[u8], numbers: &[usize], text: &mut [u8], at: usize) -> usize
     ensures { Printed (text_and answer.now numbers.now) text.old text.new at result }
 {
     let a = print_ok(answer, text, at);
@@ -42,10 +42,7 @@ pub fn print_read(
 {
     match texts::read_text(source, room, out) {
         WriteAnswer::Refused(e) => lines::print_no(text, at, refusals::number_of(e)),
-        WriteAnswer::Written(n, units) => {
-            let numbers = [units];
-            outcome::print_answer(&out[..n], &numbers, text, at)
-        }
+        WriteAnswer::Written(n, units) => { outcome::print_answer(&out[..n], &[units], text, at) }
     }
 }
 
@@ -81,9 +78,8 @@ pub fn print_optimised(
     match texts::optimise_text(source, room, out) {
         Answer::Refused(e) => lines::print_no(text, at, refusals::number_of(e)),
         Answer::Answered(r) => {
-            let n = r.length;
             let numbers = [r.passes, r.units, r.mark as usize];
-            print_answer(&out[..n], &numbers, text, at)
+            print_answer(&out[..r.length], &numbers, text, at)
         }
     }
 }
@@ -101,10 +97,7 @@ pub fn print_evaluated(
 {
     match texts::evaluate_text(sources, first, room, out) {
         EvalAnswer::Refused(e) => lines::print_no(text, at, refusals::number_of(e)),
-        EvalAnswer::Value(n, steps, units) => {
-            let numbers = [steps, units];
-            print_answer(&out[..n], &numbers, text, at)
-        }
+        EvalAnswer::Value(n, steps, units) => print_answer(&out[..n], &[steps, units], text, at),
     }
 }
 
@@ -116,9 +109,8 @@ pub fn print_fault(source: &[u8], room: &mut [u8], text: &mut [u8], at: usize) -
         FaultAnswer::Refused(e) => lines::print_no(text, at, refusals::number_of(e)),
         FaultAnswer::NoFault => lines::print_word(text, at, b"no fault\n"),
         FaultAnswer::At(p) => {
-            let numbers = [p];
             let a = lines::print_word(text, at, b"at");
-            lines::print_numbers(text, a, &numbers)
+            lines::print_numbers(text, a, &[p])
         }
     }
 }
