@@ -1,20 +1,17 @@
 -- Hex digits: what each return and the loop over them needs. Assumes nothing.
-use Prim.Native.Nat.{ℕ, ◌+◌, ◌-◌, ◌*◌, ◌≤◌, ◌<◌}
-use mathlib.Core.Path.{◌≡◌, refl, sym, ◌∙◌, ap}
+use Prim.Native.Nat.{ℕ, ◌+◌, ◌-◌, ◌≤◌, ◌<◌}
+use mathlib.Core.Path.{◌≡◌, refl, ◌∙◌, ap}
 use mathlib.Core.List.{List, [], ◌∷◌}
 use mathlib.Core.Bool.{Bool, true, false, ◌&&◌}
 use mathlib.Core.Option.{none, some}
 use Rattle.std.specs.Prelude.{Some, None}
-use Rattle.std.specs.Prelude.{Option as Maybe}
 use native.Mathlib.Omega.{arith}
 use borrow.Author.Tests.{le-leb, lt-leb, eq-eqb, ne_eqb}
 use lib.Dec.{leb, eqb}
-use mir.Syntax.{w8}
-use mir.Val.{Fits}
 use lib.ListN.{length, get_or}
 use Rattle.meaning.proofs.Tests.{on_bool, not_false}
-use Rattle.notation.specs.Words.{hex_value, hex_word, signed_word, and_then}
-use Rattle.text_reader.specs.Digits.{found, hex_pair, after_0x, Begins, Digit, Small}
+use Rattle.notation.specs.Words.{hex_value, hex_word, signed_word}
+use Rattle.text_reader.specs.Digits.{found, after_0x, Begins, Digit, Small}
 
 -- ---- a number between two others
 

@@ -1,12 +1,9 @@
 -- What the tests on one byte say of its kind. Assumes nothing.
-use Prim.Native.Nat.{ℕ}
-use mathlib.Core.Path.{◌≡◌, refl, sym, ◌∙◌, ap}
-use mathlib.Core.Bool.{true, false}
-use borrow.Author.Tests.{ne_eqb}
+use mathlib.Core.Path.{◌≡◌, refl}
+use mathlib.Core.Bool.{true}
 use Rattle.meaning.proofs.Tests.{not_false}
 use Rattle.notation.specs.declared.Kind.{Kind}
 use Rattle.notation.specs.declared.Kind.TheVariants.{Blank, Opens, Closes, Quotes, Plain}
-use Rattle.notation.specs.Grammar.{kind_of}
 use Rattle.text_reader.specs.Tokens.{is_plain, is_blank}
 
 -- what the two tests say of a kind

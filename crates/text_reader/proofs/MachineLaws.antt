@@ -2,14 +2,12 @@
 use mathlib.Core.Logic.{◌⊎◌, inl, inr}
 use mathlib.Core.Path.{◌≡◌, refl, sym, ◌∙◌, ap, subst}
 use mathlib.Core.List.{List, [], ◌∷◌, ◌++◌, append-nil, append_assoc}
-use mathlib.Core.Bool.{Bool, true, false}
+use mathlib.Core.Bool.{Bool, false}
 use mathlib.Core.Option.{none, some}
-use Prim.Native.Nat.{ℕ, zero, suc, ◌+◌, ◌-◌, ◌<◌, ◌≤◌}
+use Prim.Native.Nat.{ℕ, zero, suc, ◌+◌, ◌<◌, ◌≤◌}
 use native.Mathlib.Omega.{arith}
-use lib.Dec.{eqb}
-use lib.ListN.{length, get_or, set, take, drop, length-set, length-drop}
-use lib.Seq.{get_or-set_same, get_or-set_other, take-length}
-use borrow.Author.Tests.{eq-eqb, ne_eqb}
+use lib.ListN.{length, set, drop, length-set}
+use lib.Seq.{get_or-set_same, get_or-set_other}
 use Rattle.meaning.specs.Tree.{atom, is_byte}
 use Rattle.meaning.specs.Limits.{form_limit}
 use Rattle.meaning.specs.Form.{write_atom}
@@ -17,7 +15,7 @@ use Rattle.meaning.proofs.Tests.{on_bool}
 use Rattle.notation.specs.declared.Place.{Place}
 use Rattle.notation.specs.declared.Place.TheVariants.{Operator, Code, Data}
 use Rattle.notation.specs.Words.{word_bytes}
-use Rattle.notation.specs.Texts.{head_in, is_one, after, place_after}
+use Rattle.notation.specs.Texts.{is_one, after, place_after}
 use Rattle.decimals.specs.declared.Spelled.{Spelled}
 use Rattle.decimals.specs.declared.Spelled.TheVariants.{From, Long, Nothing as not-spelled}
 use Rattle.decimals.specs.Spelling.{Spells, SpellsLong, spells_long, SpelledOk, Spelling}
@@ -27,12 +25,11 @@ use Rattle.text_reader.specs.declared.machine.Want.{Want}
 use Rattle.text_reader.specs.declared.machine.Want.TheVariants.{Whole, First, More, Last, Bracket, Nothing}
 use Rattle.text_reader.specs.declared.machine.Reading.{Reading}
 use Rattle.std.specs.Prelude.{Option, Some, None}
-use Rattle.text_reader.specs.declared.machine.Turn.TheVariants.{Goes, Done}
 use Rattle.text_reader.specs.declared.machine.Opened.{Opened}
 use Rattle.text_reader.specs.declared.machine.Wanted.{Wanted}
 use Rattle.text_reader.specs.Forms.{Within, Emitted, Emits, pair_byte}
-use Rattle.text_reader.specs.Machine.{Next, on, no, want_of, back, on_opening, pop, on_closing, on_atom, on_word, place_of}
-use Rattle.text_reader.specs.Turns.{opening_of, wanted_after, stack_in, leads, StepOk, LeadsOn, leads_on, PassOk, AtomOk, LongOk, WordOk, PopOk, dotted, end_turn, turn_of}
+use Rattle.text_reader.specs.Machine.{Next, on, no, on_opening, pop, on_closing, on_atom, on_word, place_of}
+use Rattle.text_reader.specs.Turns.{opening_of, wanted_after, stack_in, leads, StepOk, LeadsOn, leads_on, PassOk, AtomOk, LongOk, WordOk, PopOk}
 use Rattle.text_reader.proofs.EmitLaws.{emits_none, part_over}
 
 -- ---- leaves

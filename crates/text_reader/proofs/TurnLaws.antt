@@ -1,13 +1,12 @@
 -- What each return of a turn needs: a step of the machine is a token of the text. Assumes nothing.
 use mathlib.Core.Path.{◌≡◌, refl, sym, ◌∙◌, ap, subst}
 use mathlib.Core.List.{List, [], ◌∷◌}
-use Prim.Native.Nat.{ℕ, zero, suc, ◌+◌, ◌-◌, ◌<◌, ◌≤◌}
+use Prim.Native.Nat.{ℕ, ◌+◌, ◌-◌, ◌<◌, ◌≤◌}
 use native.Mathlib.Omega.{arith}
-use lib.ListN.{length, take, drop, length-drop}
+use lib.ListN.{length}
 use mir.Syntax.{w64}
 use mir.Val.{Fits}
 use Rattle.refusals.specs.declared.Refusal.TheVariants.{NoParse as not-parsed}
-use Rattle.meaning.specs.Limits.{form_limit, room_least}
 use Rattle.meaning.specs.Meter.{Out, stop}
 use Rattle.notation.specs.Texts.{text_limit}
 use Rattle.notation.specs.Grammar.{opening, closing, dot, wrong, word, quoted, spot, signs}

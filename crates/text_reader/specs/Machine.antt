@@ -1,5 +1,5 @@
 -- The machine over tokens: what is wanted next, what is wanted after each open list (the innermost first), and the form so far.
-use Rattle.std.specs.Prelude.{ℕ, List, [], ◌∷◌, ◌++◌, true, false}
+use Rattle.std.specs.Prelude.{ℕ, List, [], ◌∷◌, ◌++◌}
 use Rattle.std.proofs.Math.Option.{none, some}
 use Rattle.meaning.specs.Tree.{atom}
 use Rattle.refusals.specs.declared.Refusal.TheVariants.{NoParse}

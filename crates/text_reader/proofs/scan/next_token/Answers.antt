@@ -1,6 +1,5 @@
 -- next_token: separators are skipped. Assumes nothing.
 use Rattle.text_reader.proofs.ScanLaws as laws
-use borrow.Author.Rules.{rules}
 use Rattle.text_reader.proofs.scan.next_token.Goals as goal
 
 pub returns-then-i-text : goal.returns-then-i-text

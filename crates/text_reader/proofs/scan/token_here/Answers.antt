@@ -1,6 +1,5 @@
 -- token_here: by the kind of the first byte. Assumes nothing.
 use Rattle.text_reader.proofs.ScanLaws as laws
-use borrow.Author.Rules.{rules}
 use Rattle.text_reader.proofs.scan.token_here.Goals as goal
 
 pub word_from-requires : goal.word_from-requires

@@ -1,6 +1,5 @@
 -- word_bytes: a name, hex, or a number. Assumes nothing.
 use Rattle.text_reader.proofs.WordLaws as laws
-use borrow.Author.Rules.{rules}
 use Rattle.text_reader.proofs.words.word_bytes.Goals as goal
 
 pub returns-in-Some : goal.returns-in-Some
