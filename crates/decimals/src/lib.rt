@@ -10,6 +10,7 @@ ghost use Rattle.decimals.specs.Places.{Holds, Times, Before, Holding, Less, Pas
 ghost use Rattle.decimals.specs.Spelling.{Counting, Spelling, digits_spelt};
 
 // Where the bytes begin, which go on to the room's end; that there are more than a form may have; or that a word spells nothing.
+// the new form is no plainer: three answers, and neither Option nor Result has three.
 #[derive(Clone, Copy)]
 pub enum Spelled {
     From(usize),

@@ -21,8 +21,6 @@ use Rattle.text_reader.specs.declared.machine.Frame.{Frame}
 use Rattle.text_reader.specs.declared.machine.Reading.{Reading}
 use Rattle.text_reader.specs.declared.machine.Turn.{Turn}
 use Rattle.text_reader.specs.declared.machine.Turn.TheVariants.{Goes, Done, Fails}
-use Rattle.text_reader.specs.declared.convert.Converted.TheVariants.{Form, Refused}
-use Rattle.text_reader.specs.declared.convert.Fault.TheVariants.{At, Nowhere, Long}
 use Rattle.std.specs.Prelude.{Result, Ok, Err, Some, None}
 use Rattle.std.specs.Prelude.{Option as Maybe}
 use Rattle.text_reader.specs.Forms.{Emitted, Holds, Stands}
@@ -65,20 +63,20 @@ module _ (text : List ℕ) (short : length text ≤ text_limit) where
   long_read u e h = stops (record { left = e; units = u }) (rw (leb_no (length e) form_limit h, read_form) refl)
 
   -- the form is whole, or too long
-  ended : (e f : List ℕ) (n : ℕ) → all_of text ≡ done e [] → Emitted e f (Some n) → ConvertedOk text f (Form n)
+  ended : (e f : List ℕ) (n : ℕ) → all_of text ≡ done e [] → Emitted e f (Some n) → ConvertedOk text f (Ok n)
   unfolding ConvertedOk Holds
   ended e f n h m =
       let (t, ts, j, k) = read_whole text e h in
       let z : Stands e f n = m.holds in
       record { within = m.within; is = λ u. read_as u t ts j ∙ ap (λ (l : List ℕ). read_form l u) (k ∙ sym z.front) }
 
-  ended_long : (e f : List ℕ) → all_of text ≡ done e [] → Emitted e f None → ConvertedOk text f (Refused FormLong)
+  ended_long : (e f : List ℕ) → all_of text ≡ done e [] → Emitted e f None → ConvertedOk text f (Err FormLong)
   unfolding ConvertedOk Holds
   ended_long e f h m =
       let (t, ts, j, k) = read_whole text e h in
       record { is = λ u. subst (λ (o : Out Read Tree). spans.Stops o FormLong) (sym (read_as u t ts j ∙ ap (λ (l : List ℕ). read_form l u) k)) (long_read u e m.holds) }
 
-pub too_long : (text f : List ℕ) → text_limit < length text → ConvertedOk text f (Refused TextLong)
+pub too_long : (text f : List ℕ) → text_limit < length text → ConvertedOk text f (Err TextLong)
 unfolding ConvertedOk read_text
 too_long text f h = record { is = λ u. stops (record { left = []; units = u }) (rw (leb_no (length text) text_limit h, read_text) refl) }
 
@@ -173,21 +171,21 @@ going_less text fr fr' f f' r q t m o e w i =
 -- ---- what comes of the machine's end
 
 module _ (text f : List ℕ) (x : Result (Maybe ℕ) ℕ) (h : length text ≤ text_limit) (o : EndingOk text f x) where
-  pub whole_converted : (n : ℕ) (g : Maybe ℕ) → x ≡ Ok g → g ≡ Some n → ConvertedOk text f (Form n)
+  pub whole_converted : (n : ℕ) (g : Maybe ℕ) → x ≡ Ok g → g ≡ Some n → ConvertedOk text f (Ok n)
   unfolding EndingOk
   whole_converted n g e i = let y : Ends text f g = (rw e at o) in let z : Ends text f (Some n) = (rw i at y) in then z
     where
-      then : Ends text f (Some n) → ConvertedOk text f (Form n)
+      then : Ends text f (Some n) → ConvertedOk text f (Ok n)
       then (ends l j m) = ended text h l f n j m
 
-  pub long_converted : (g : Maybe ℕ) → x ≡ Ok g → g ≡ None → ConvertedOk text f (Refused FormLong)
+  pub long_converted : (g : Maybe ℕ) → x ≡ Ok g → g ≡ None → ConvertedOk text f (Err FormLong)
   unfolding EndingOk
   long_converted g e i = let y : Ends text f g = (rw e at o) in let z : Ends text f None = (rw i at y) in then z
     where
-      then : Ends text f None → ConvertedOk text f (Refused FormLong)
+      then : Ends text f None → ConvertedOk text f (Err FormLong)
       then (ends l j m) = ended_long text h l f j m
 
-  pub stops_converted : (at : ℕ) → x ≡ Err at → ConvertedOk text f (Refused NoParse)
+  pub stops_converted : (at : ℕ) → x ≡ Err at → ConvertedOk text f (Err NoParse)
   unfolding EndingOk ConvertedOk
   stops_converted at e = let z : StopsAt text at = (rw e at o) in not_read text h (signs_at text at) (read_none text (signs_at text at) z.is)
 
@@ -195,19 +193,19 @@ module _ (text f : List ℕ) (x : Result (Maybe ℕ) ℕ) (h : length text ≤ t
   unfolding EndingOk
   stops_within at e = let z : StopsAt text at = (rw e at o) in z.within
 
-  pub whole_parses : (g : Maybe ℕ) → x ≡ Ok g → FaultOk text Nowhere
+  pub whole_parses : (g : Maybe ℕ) → x ≡ Ok g → FaultOk text (Ok None)
   unfolding EndingOk FaultOk
   whole_parses g e = let z : Ends text f g = (rw e at o) in then z
     where
       then : Ends text f g → Located text none
       then (ends l j m) = let (t, ts, i, k) = read_whole text l j in record { short = h; is = none_read text t ts i }
 
-  pub stops_there : (at p : ℕ) → p ≡ first_place (spots_at text at) (length text) → x ≡ Err at → FaultOk text (At p)
+  pub stops_there : (at p : ℕ) → p ≡ first_place (spots_at text at) (length text) → x ≡ Err at → FaultOk text (Ok (Some p))
   unfolding EndingOk FaultOk
   stops_there at p i e =
       let z : StopsAt text at = (rw e at o) in
       record { short = h; is = some_read text (signs_at text at) (read_none text (signs_at text at) z.is) ∙ ap some (last_place text at z.before ∙ sym i) }
 
-pub too_long_to_see : (text : List ℕ) → text_limit < length text → FaultOk text Long
+pub too_long_to_see : (text : List ℕ) → text_limit < length text → FaultOk text (Err TextLong)
 unfolding FaultOk
-too_long_to_see text h = record { long = h }
+too_long_to_see text h = record { long = h; is = refl }

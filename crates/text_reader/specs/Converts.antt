@@ -1,9 +1,9 @@
 -- What a text is promised to be converted to: bytes that are read as the text is, or the refusal of its reading.
-use Rattle.std.specs.Prelude.{ℕ, ◌≤◌, ◌<◌, ◌≡◌, List, [], ◌++◌, Result, Ok, Err, Some, length, take}
+use Rattle.std.specs.Prelude.{ℕ, ◌≤◌, ◌<◌, ◌≡◌, List, [], ◌++◌, Result, Ok, Err, Some, None, length, take}
 use Rattle.std.specs.Prelude.{Option as Maybe}
 use Rattle.std.proofs.Math.Option.{Option, none, some}
 use Rattle.refusals.specs.declared.Refusal.{Refusal}
-use Rattle.refusals.specs.declared.Refusal.TheVariants.{NoParse}
+use Rattle.refusals.specs.declared.Refusal.TheVariants.{NoParse, TextLong}
 use Rattle.meaning.specs.Limits.{form_limit}
 use Rattle.meaning.specs.Form.{read_form}
 use Rattle.meaning.specs.Meter.{Out, done, stop}
@@ -13,10 +13,6 @@ use Rattle.notation.specs.Grammar.{Token, Spot, read_text}
 use Rattle.notation.specs.Faults.{fault}
 use Rattle.text_reader.specs.declared.machine.Reading.{Reading}
 use Rattle.text_reader.specs.declared.machine.Want.TheVariants.{Whole}
-use Rattle.text_reader.specs.declared.convert.Converted.{Converted}
-use Rattle.text_reader.specs.declared.convert.Converted.TheVariants.{Form, Refused}
-use Rattle.text_reader.specs.declared.convert.Fault.{Fault}
-use Rattle.text_reader.specs.declared.convert.Fault.TheVariants.{At, Nowhere, Long}
 use Rattle.text_reader.specs.Forms.{Emitted}
 use Rattle.text_reader.specs.Tokens.{spots_at, signs_at}
 use Rattle.text_reader.specs.Machine.{run}
@@ -30,9 +26,9 @@ pub record Converts (text f : List ℕ) (n : ℕ) : Type 0 where
 pub record NotConverted (text : List ℕ) (e : Refusal) : Type 0 where
   pub is : (u : ℕ) → spans.Stops (read_text text u) e
 
-unfoldable pub ConvertedOk : List ℕ → List ℕ → Converted → Type 0
-ConvertedOk text f (Form n) = Converts text f n
-ConvertedOk text f (Refused e) = NotConverted text e
+unfoldable pub ConvertedOk : List ℕ → List ℕ → Result ℕ Refusal → Type 0
+ConvertedOk text f (Ok n) = Converts text f n
+ConvertedOk text f (Err e) = NotConverted text e
 
 -- ---- where a text stops
 
@@ -41,14 +37,15 @@ pub record Located (text : List ℕ) (o : Option ℕ) : Type 0 where
   pub short : length text ≤ text_limit
   pub is : fault text ≡ o
 
--- the text is too long
-pub record Overlong (text : List ℕ) : Type 0 where
+-- the text is too long, and that is what it is refused with
+pub record Overlong (text : List ℕ) (e : Refusal) : Type 0 where
   pub long : text_limit < length text
+  pub is : e ≡ TextLong
 
-unfoldable pub FaultOk : List ℕ → Fault → Type 0
-FaultOk text (At p) = Located text (some p)
-FaultOk text Nowhere = Located text none
-FaultOk text Long = Overlong text
+unfoldable pub FaultOk : List ℕ → Result (Maybe ℕ) Refusal → Type 0
+FaultOk text (Ok (Some p)) = Located text (some p)
+FaultOk text (Ok None) = Located text none
+FaultOk text (Err e) = Overlong text e
 
 -- ---- the machine's first state, its end, and what comes of it
 

@@ -8,21 +8,6 @@ use crate::machine::{Frame, Reading, Turn, Want, take_token};
 use crate::scan::next_place;
 use refusals::Refusal;
 
-// How many bytes the form has, or a refusal.
-#[derive(Clone, Copy)]
-pub enum Converted {
-    Form(usize),
-    Refused(Refusal),
-}
-
-// Where a text stops that does not parse; or that it parses, or is too long to be looked at.
-#[derive(Clone, Copy)]
-pub enum Fault {
-    At(usize),
-    Nowhere,
-    Long,
-}
-
 const TEXT: usize = 32768;
 
 fn start() -> Reading
@@ -72,34 +57,35 @@ fn convert(text: &[u8], room: &mut [u8], form: &mut [u8]) -> Result<Option<usize
     take_tokens(text, &mut frames, room, form)
 }
 
-// The serialised form of the text's tree, at the front of form, which has 8,192 bytes at least. Words are spelled out in the room, which
-// has 65,536 bytes at least.
-pub fn form_of_text(text: &[u8], room: &mut [u8], form: &mut [u8]) -> Converted
+// The serialised form of the text's tree, at the front of form, which has 8,192 bytes at least: how many bytes it has. Words are spelled
+// out in the room, which has 65,536 bytes at least.
+pub fn form_of_text(text: &[u8], room: &mut [u8], form: &mut [u8]) -> Result<usize, Refusal>
     requires { (room_least ≤ length room.old) × (form_limit ≤ length form.old) }
     ensures { ConvertedOk text.now form.new result }
 {
     if TEXT < text.len() {
-        return Converted::Refused(Refusal::TextLong);
+        return Err(Refusal::TextLong);
     }
     // Refusal 2 comes after 15.
     match convert(text, room, form) {
-        Ok(Some(n)) => Converted::Form(n),
-        Ok(None) => Converted::Refused(Refusal::FormLong),
-        Err(_) => Converted::Refused(Refusal::NoParse),
+        Ok(Some(n)) => Ok(n),
+        Ok(None) => Err(Refusal::FormLong),
+        Err(_) => Err(Refusal::NoParse),
     }
 }
 
-// Where the text stops: the same machine, and its form is dropped.
-pub fn fault_of_text(text: &[u8], room: &mut [u8]) -> Fault
+// Where a text stops that does not parse, or none where it parses: the same machine, and its form is dropped. Refused is a text that is
+// too long to be looked at.
+pub fn fault_of_text(text: &[u8], room: &mut [u8]) -> Result<Option<usize>, Refusal>
     requires { room_least ≤ length room.old }
     ensures { FaultOk text.now result }
 {
     if TEXT < text.len() {
-        return Fault::Long;
+        return Err(Refusal::TextLong);
     }
     let mut form = [0u8; 8192];
     match convert(text, room, &mut form) {
-        Ok(_) => Fault::Nowhere,
-        Err(at) => Fault::At(next_place(text, at)),
+        Ok(_) => Ok(None),
+        Err(at) => Ok(Some(next_place(text, at))),
     }
 }

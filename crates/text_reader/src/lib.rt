@@ -7,4 +7,4 @@ mod machine;
 mod scan;
 mod words;
 
-pub use convert::{Converted, Fault, fault_of_text, form_of_text};
+pub use convert::{fault_of_text, form_of_text};
