@@ -10,7 +10,7 @@ ghost use Rattle.lines.specs.Text.{Printed};
 ghost use Rattle.match_line.specs.Line.{no_match_at, no_match_line, match_line};
 ghost use Rattle.match_line.specs.Written.{NameFrom, both_in, ok_in};
 
-use matcher::{MatchAnswer, Parts};
+use matcher::{Parts, Verdict};
 
 // Where the bytes of a written name begin. It has at most 64 of them, so its prefix has at most two bytes.
 // tried: the proof did not close by slice patterns with ranges: they leave seven goals, most under names that may change.
@@ -97,12 +97,12 @@ pub fn print_matched(
 {
     let m = matcher::matches(forms, first, room, out);
     match m.answer {
-        MatchAnswer::Matched(e) => {
+        Ok(Verdict::Matched(e)) => {
             let k = print_parts(out, e, text, at);
             lines::print_word(text, k, b"\n")
         }
-        MatchAnswer::NoMatch => print_place(m.place, text, at),
-        MatchAnswer::TooManyNames => lines::print_word(text, at, b"too many names\n"),
-        MatchAnswer::Refused(r) => lines::print_no(text, at, refusals::number_of(r)),
+        Ok(Verdict::NoMatch) => print_place(m.place, text, at),
+        Ok(Verdict::TooManyNames) => lines::print_word(text, at, b"too many names\n"),
+        Err(e) => lines::print_no(text, at, refusals::number_of(e)),
     }
 }
