@@ -1,13 +1,12 @@
 -- The entries that find looks at, what it finds and what lookup says of that: their needs, and that the answer is right. Assumes nothing.
 use Rattle.std.specs.Prelude.{Option, Some, None}
-use mathlib.Core.Path.{◌≡◌, refl, sym, ◌∙◌, ap}
+use mathlib.Core.Path.{◌≡◌, refl, sym, ◌∙◌}
 use mathlib.Core.List.{List}
 use mathlib.Core.Bool.{Bool, true, false, ◌&&◌}
 use Prim.Native.Nat.{ℕ, zero, suc, ◌+◌, ◌-◌, ◌<◌, ◌≤◌}
 use native.Mathlib.Omega.{arith}
-use lib.ListN.{length}
 use lib.Dec.{eqb, leb, ltb}
-use borrow.Author.Tests.{ltb-true, lt-ltb, le-ltb, leb-true, le-leb, lt-leb, eq-eqb, ne_eqb}
+use borrow.Author.Tests.{ltb-true, lt-ltb, le-ltb, leb-true}
 use Rattle.meaning.proofs.Tests.{on_bool, not_false, and_inv}
 use Rattle.store.specs.Cells.{Room}
 use Rattle.store.specs.Nodes.{tree_at, print_of}
@@ -18,42 +17,21 @@ use Rattle.run_state.specs.declared.Notes.{Notes}
 use Rattle.run_state.specs.declared.Notes.TheVariants.{Nothing, Counts}
 use Rattle.run_state.specs.declared.Work.{Work}
 use Rattle.run_state.specs.State.{entry_at, Sounds}
-use Rattle.run_state.proofs.Entries.{few, sound_at}
+use Rattle.run_state.proofs.Entries.{sound_at}
 use Rattle.memo.specs.declared.Verdict.{Verdict}
 use Rattle.memo.specs.Policy.{low_print, deep_limit, look_limit, alike_in, candidate, or_else, first_hit, hit_says, says_at, memo_says, unless_noted}
 use Rattle.memo.specs.Memo.{AnswerOk, Looked}
 use Rattle.memo.proofs.Comparing.{alike_right}
 use Rattle.memo.proofs.Hits.{Matches, unknown, hit_right}
 
--- ---- is_candidate
-
-module _ (f s : List ℕ) (key nest : ℕ) (e : Entry) where
-  pub other_low : (low : ℕ) → low ≡ low_print key → (e.print ≡ low → ⊥) → false ≡ candidate f s key nest e
-  unfolding candidate
-  other_low low el d = rw (ne_eqb e.print (low_print key) (λ q. d (q ∙ sym el)))
-
-  pub too_high : (h : ℕ) → 65 < h + nest → h ≡ e.height → false ≡ candidate f s key nest e
-  unfolding candidate
-  too_high h l eh =
-      let z : leb (e.height + nest) 65 ≡ false = lt-leb (e.height + nest) 65 (omega arith) in
-      on_bool (eqb e.print (low_print key)) (λ y. rw (y, z)) (λ y. rw y)
-
-  pub by_print : (p x h low : ℕ) → p ≡ print_of (tree_at f s x) → x ≡ e.expr → h + nest ≤ 65 → h ≡ e.height → e.print ≡ low → low ≡ low_print key → eqb p key ≡ candidate f s key nest e
-  unfolding candidate
-  by_print p x h low ep ex l eh el ek = rw (eq-eqb e.print (low_print key) (el ∙ ek), le-leb (e.height + nest) 65 (omega arith), ← ex, ← ep)
-
 -- ---- find
 
-module _ (f s : List ℕ) (w : Work) (used : ℕ) (row : List (List ℕ)) (v : Sounds f s w.ch w.mark used row) (i : ℕ) (l : i < used) where
-  pub entry_few : i < length row
-  entry_few = omega (arith, few v)
+module _ (f s : List ℕ) (w : Work) (used : ℕ) (row : List (List ℕ)) (v : Sounds f s w.ch w.mark used row) (i : ℕ) (l : i < used) (e : Entry) (ee : e ≡ entry_at row i) where
+  pub entry_ready : Ready f s w.ch e.expr
+  entry_ready = rw ee (sound_at v i l).expr
 
-  module _ (e : Entry) (ee : e ≡ entry_at row i) where
-    pub entry_ready : Ready f s w.ch e.expr
-    entry_ready = rw ee (sound_at v i l).expr
-
-    pub entry_room : (x : ℕ) → x ≡ e.expr → Room s x
-    entry_room x ex = rw ex (room f s w.ch e.expr entry_ready)
+  pub entry_room : (x : ℕ) → x ≡ e.expr → Room s x
+  entry_room x ex = rw ex (room f s w.ch e.expr entry_ready)
 
 -- before the entry at i, with `left` looks left
 pub record Searching (f s : List ℕ) (row : List (List ℕ)) (n nest used left i : ℕ) : Type 0 where
@@ -61,9 +39,6 @@ pub record Searching (f s : List ℕ) (row : List (List ℕ)) (n nest used left 
   pub rest : first_hit f s row n nest (used - i) left i ≡ first_hit f s row n nest used look_limit 0
 
 module _ (f s : List ℕ) (row : List (List ℕ)) (n nest used : ℕ) where
-  pub search_starts : Searching f s row n nest used look_limit 0
-  search_starts = record { within = omega arith; rest = ap (λ (k : ℕ). first_hit f s row n nest k look_limit 0) (omega arith) }
-
   module _ (left i : ℕ) (g : Searching f s row n nest used left i) where
     pub found_none : used ≤ i → used ≡ first_hit f s row n nest used look_limit 0
     unfolding first_hit
@@ -143,9 +118,9 @@ module _ (f s : List ℕ) (row : List (List ℕ)) (w : Work) (used n nest : ℕ)
   noting notes e = rw e (record { right = unknown f s w n nest; says = refl })
 
   module _ (i : ℕ) (ei : i ≡ first_hit f s row n nest used look_limit 0) (notes : Notes) (silent : notes ≡ Nothing) where
-    pub miss : used ≤ i → Looked f s row w used n nest notes None
+    pub miss : i ≡ used → Looked f s row w used n nest notes None
     unfolding memo_says says_at
-    miss l = rw silent (looked None (rw (← ei, le-ltb i used l)))
+    miss e = rw silent (looked None (rw (← ei, le-ltb i used (omega arith))))
 
     pub hit : i < used → (e : Entry) → e ≡ entry_at row i → (a : Option Work) → a ≡ hit_says w e → Looked f s row w used n nest notes a
     unfolding memo_says says_at

@@ -2,7 +2,7 @@
 use mathlib.Core.Path.{◌≡◌, refl, ◌∙◌, ap}
 use mathlib.Core.List.{List}
 use mathlib.Core.Bool.{true, false}
-use Prim.Native.Nat.{ℕ, ◌+◌, ◌^◌, ◌<◌, ◌≤◌}
+use Prim.Native.Nat.{ℕ, ◌+◌, ◌<◌, ◌≤◌}
 use native.Mathlib.Omega.{arith}
 use lib.ListN.{length, set}
 use lib.Dec.{eqb, ltb}
@@ -66,13 +66,6 @@ module _ (f s : List ℕ) (b a : Work) (n r nest : ℕ) (h : Ended f s b a n r n
 pub has_room : (row : List (List ℕ)) (st : State) (b : Work) → is_stored row st b ≡ true → st.used + count_records < length row
 unfolding is_stored
 has_room row st b y = on_bool (ltb (st.used + count_records) (length row)) (λ x. ltb-true (st.used + count_records) (length row) x) (λ x. not_false (rw x at y))
-
--- the counts stand behind the entries
-pub behind_fits : (f s : List ℕ) (row : List (List ℕ)) (st : State) → Valid f s row st → length row < 2 ^ 64 → st.used + 8 < 2 ^ 64
-behind_fits f s row st v l = within (st.used + 8) (length row) (2 ^ 64) (few v) l
-  where
-    within : (a b c : ℕ) → a ≤ b → b < c → a < c
-    within a b c x y = omega arith
 
 module _ (f s : List ℕ) (row : List (List ℕ)) (st : State) (b : Work) (n r nest : ℕ) (v : Valid f s row st) (h : Ended f s b st.w n r nest) where
   -- the row is sound after a call as the policy has it

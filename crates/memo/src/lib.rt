@@ -1,7 +1,7 @@
 // The memo: finished expressions, found by fingerprint and compared by structure, and what a hit charges.
 #![tactic(auto)]
 
-ghost use Rattle.std.specs.Prelude.{◌≡◌, [], suc, ◌<◌, ◌≤◌, length, get_or, set};
+ghost use Rattle.std.specs.Prelude.{◌≡◌, [], suc, ◌<◌, ◌≤◌, length, get_or, set, MatchOption};
 ghost use Rattle.meaning.specs.Limits.{unit_limit, pass_limit};
 ghost use Rattle.store.specs.Cells.{Room};
 ghost use Rattle.store.specs.Store.{Ready};
@@ -24,12 +24,6 @@ pub(crate) struct Verdict {
 const LOOKS: usize = 4096;
 
 const DEEP: usize = 64;
-
-fn wide(x: u16) -> usize
-    ensures { (result ≡ x) × (result < 65536) }
-{
-    x as usize
-}
 
 // ---- the row
 
@@ -57,8 +51,7 @@ fn entry_at(row: &[Record], i: usize) -> Entry
     requires { i < length row.now }
     ensures { result ≡ entry_of (get_or row.now i []) }
 {
-    let a = row[i];
-    entry_from(a)
+    entry_from(row[i])
 }
 
 // Stores the record at i.
@@ -66,8 +59,7 @@ fn put_entry(row: &mut [Record], i: usize, e: Entry)
     requires { i < length row.old }
     ensures { row.new ≡ set row.old i (record_of e) }
 {
-    let a = record_from(e);
-    row[i] = a;
+    row[i] = record_from(e);
 }
 
 // ---- comparison
@@ -89,10 +81,7 @@ fn alike<'a>(
     let mut left = looks;
     loop {
         if a == b {
-            return Verdict {
-                same: true,
-                left: left,
-            };
+            return Verdict { same: true, left };
         }
         if left == 0 {
             return Verdict {
@@ -103,17 +92,11 @@ fn alike<'a>(
         left -= 1;
         match sexp::compare_records(form, room, a, b) {
             Compared::Told(u) => {
-                return Verdict {
-                    same: u,
-                    left: left,
-                };
+                return Verdict { same: u, left };
             }
             Compared::Parts(al, ar, bl, br) => {
                 if deep == 0 {
-                    return Verdict {
-                        same: false,
-                        left: left,
-                    };
+                    return Verdict { same: false, left };
                 }
                 let v = alike(form, room, al, bl, deep - 1, left);
                 if !v.same {
@@ -137,6 +120,7 @@ fn low_print(key: u64) -> u16
 }
 
 // Is the entry one to compare with an expression of fingerprint `key`, at `nest`?
+#[tactic(auto, unfolding(crate::specs::Policy::candidate))]
 fn is_candidate<'a>(
     form: &'a [u8],
     room: &'a [u8],
@@ -148,16 +132,12 @@ fn is_candidate<'a>(
     requires { Ready form.now room.now ch e.expr × (nest < 65) }
     ensures { result ≡ candidate form.now room.now key nest e }
 {
-    if e.print != low_print(key) {
-        return false;
-    }
-    if wide(e.height) + nest <= 65 {
-        return store::print_node(form, room, ch, wide(e.expr)) == key;
-    }
-    false
+    e.print == low_print(key)
+        && usize::from(e.height) + nest <= 65
+        && store::print_node(form, room, ch, usize::from(e.expr)) == key
 }
 
-// The place of the first candidate found alike with n; `used` where none is.
+// The place of the first candidate found alike with n.
 fn find<'a>(
     form: &'a [u8],
     room: &'a [u8],
@@ -166,28 +146,23 @@ fn find<'a>(
     used: usize,
     n: usize,
     nest: usize,
-) -> usize
+) -> Option<usize>
     requires { Ready form.now room.now w.ch n × Sounds form.now room.now w.ch w.mark used row.now × (nest < 65) }
-    ensures { result ≡ first_hit form.now room.now row.now n nest used look_limit 0 }
+    ensures { MatchOption result (first_hit form.now room.now row.now n nest used look_limit 0 ≡ used) (λ i. (i < used) × (first_hit form.now room.now row.now n nest used look_limit 0 ≡ i)) }
 {
-    let ch = w.ch;
-    let key = store::print_node(form, room, ch, n);
-    let mut left: usize = LOOKS;
-    let mut i: usize = 0;
-    while i < used {
+    let key = store::print_node(form, room, w.ch, n);
+    let mut left = LOOKS;
+    for i in 0..used {
         let e = entry_at(row, i);
-        if is_candidate(form, room, ch, e, key, nest) {
-            let v = alike(form, room, wide(e.expr), n, DEEP, left);
+        if is_candidate(form, room, w.ch, e, key, nest) {
+            let v = alike(form, room, usize::from(e.expr), n, DEEP, left);
             if v.same {
-                return i;
+                return Some(i);
             }
             left = v.left;
-            i += 1;
-        } else {
-            i += 1;
         }
     }
-    used
+    None
 }
 
 // A hit charges what the entry says; where that would cross a limit the call is to be worked afresh.
@@ -195,27 +170,21 @@ fn charged(w: Work, e: Entry) -> Option<Work>
     requires { (w.ch.units ≤ unit_limit) × (w.passes ≤ pass_limit) }
     ensures { result ≡ hit_says w e }
 {
-    let units = w.ch.units + wide(e.units);
-    let passes = w.passes + wide(e.passes);
-    if 32768 < units {
-        return None;
-    }
-    if 65536 < passes {
+    let units = w.ch.units + usize::from(e.units);
+    let passes = w.passes + usize::from(e.passes);
+    if 32768 < units || 65536 < passes {
         return None;
     }
     let ch = Charges { units, ..w.ch };
-    if e.expr == e.result {
-        return Some(Work {
-            ch,
-            passes,
-            last: Outcome::Same,
-            ..w
-        });
-    }
+    let last = if e.expr == e.result {
+        Outcome::Same
+    } else {
+        Outcome::Changed(usize::from(e.result))
+    };
     Some(Work {
         ch,
         passes,
-        last: Outcome::Changed(wide(e.result)),
+        last,
         ..w
     })
 }
@@ -235,17 +204,12 @@ pub fn lookup<'a>(
     ensures { Looked form.now room.now row.now w used n nest notes result }
 {
     match notes {
-        Notes::Counts => {
-            return None;
-        }
-        Notes::Nothing => {}
+        Notes::Counts => None,
+        Notes::Nothing => match find(form, room, row, w, used, n, nest) {
+            Some(i) => charged(w, entry_at(row, i)),
+            None => None,
+        },
     }
-    let i = find(form, room, row, w, used, n, nest);
-    if used <= i {
-        return None;
-    }
-    let e = entry_at(row, i);
-    charged(w, e)
 }
 
 // ---- storing
@@ -255,15 +219,13 @@ fn entry_of(b: Work, a: Work, n: usize, r: usize, nest: usize, print: u16) -> En
     requires { Small b a n r nest }
     ensures { result ≡ entry_to_store b a n r nest print }
 {
-    let c = b.ch;
-    let d = a.ch;
     Entry {
         expr: n as u16,
         result: r as u16,
         passes: (a.passes - b.passes) as u16,
-        units: (d.units - c.units) as u16,
+        units: (a.ch.units - b.ch.units) as u16,
         height: (65 - nest) as u16,
-        print: print,
+        print,
     }
 }
 
@@ -282,21 +244,19 @@ pub fn store<'a>(
     requires { Valid form.now room.now row.old st × Ended form.now room.now b st.w n r nest }
     ensures { Stored form.now room.now row.old row.new st b n r nest result }
 {
-    let k = st.used;
-    let a = st.w;
-    if row.len() <= k + 8 {
+    if row.len() <= st.used + 8 {
         return st;
     }
-    if a.passes == b.passes {
+    if st.w.passes == b.passes {
         return st;
     }
-    if 65536 <= a.passes {
+    if 65536 <= st.w.passes {
         return st;
     }
-    let next = k + 1;
-    let ch = a.ch;
-    let key = store::print_node(form, room, ch, n);
-    let e = entry_of(b, a, n, r, nest, low_print(key));
-    put_entry(row, k, e);
-    State { w: a, used: next }
+    let key = store::print_node(form, room, st.w.ch, n);
+    put_entry(row, st.used, entry_of(b, st.w, n, r, nest, low_print(key)));
+    State {
+        used: st.used + 1,
+        ..st
+    }
 }

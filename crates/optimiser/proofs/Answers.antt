@@ -1,4 +1,5 @@
 -- What an answer or a refusal of `optimise` says of the definition's run, and what the lent bytes then hold. Assumes nothing.
+use Rattle.std.specs.Prelude.{Result, Ok, Err, Option, Some, None}
 use Prim.Native.Nat.{ℕ}
 use mathlib.Core.Path.{◌≡◌, sym, ◌∙◌, ap}
 use mathlib.Core.List.{List, [], ◌∷◌}
@@ -9,7 +10,6 @@ use Rattle.meaning.specs.Run.{mark_number, finished, run}
 use Rattle.meaning.proofs.Lent as lent
 use Rattle.meaning.proofs.RunLaws.{run_length}
 use Rattle.optimiser.specs.declared.Report.{Report}
-use Rattle.optimiser.specs.declared.Answer.TheVariants.{Answered, Refused}
 use Rattle.optimiser.specs.Optimised.{says, Optimised}
 
 -- the run answered: its bytes stand at the front of the output, which is as it was from there on
@@ -21,7 +21,7 @@ pub record Answers (form room out : List ℕ) (r : Report) (out' : List ℕ) : T
   pub rest : drop r.length out' ≡ drop r.length out
 
 module _ (form room out room' out' : List ℕ) where
-  pub answers : (r : Report) → Optimised form room out (Answered r) room' out' → Answers form room out r out'
+  pub answers : (r : Report) → Optimised form room out (Ok r) room' out' → Answers form room out r out'
   unfolding says
   answers r h =
       let a = lent.told_answer (run form (length room) (length out)) plain (r.length ∷ r.passes ∷ r.units ∷ mark_number r.mark ∷ []) out out' h.delivers.answer h.delivers.out in
@@ -34,6 +34,6 @@ module _ (form room out room' out' : List ℕ) where
         rest = ap (λ (n : ℕ). drop n out') (sym l) ∙ a.rest ∙ ap (λ (n : ℕ). drop n out) l;
       }
 
-  pub refuses : (n : Refusal) → Optimised form room out (Refused n) room' out' → run form (length room) (length out) ≡ refused n
+  pub refuses : (n : Refusal) → Optimised form room out (Err n) room' out' → run form (length room) (length out) ≡ refused n
   unfolding says
   refuses n h = lent.told_refusal (run form (length room) (length out)) n h.delivers.answer

@@ -1,4 +1,5 @@
 -- The work of a run in its room: what each return needs. Assumes nothing.
+use Rattle.std.specs.Prelude.{Result, Ok, Err, Option, Some, None}
 use mathlib.Core.Path.{◌≡◌, refl, sym, ◌∙◌, ap, ap₂, subst}
 use mathlib.Core.List.{List}
 use mathlib.Core.Bool.{true}
@@ -17,7 +18,6 @@ use Rattle.meaning.proofs.RunLaws.{worked_read}
 use Rattle.meaning.proofs.LogRun.{ends_read, ends_unread}
 use Rattle.store.specs.declared.Charges.{Charges}
 use Rattle.store.specs.declared.Made.{Made}
-use Rattle.store.specs.declared.Made.TheVariants.{Node as made, Refused as not_made}
 use Rattle.store.specs.Nodes.{tree_at}
 use Rattle.store.specs.Store.{Ready}
 use Rattle.store.proofs.Ready.{grown_ready, grown_tree}
@@ -37,21 +37,20 @@ use Rattle.run_state.proofs.Noting.{noted_empty, noted_as}
 use Rattle.run_state.specs.Work.{spent_of, StoppedBy, Says, Did}
 use Rattle.driver_parts.specs.Turns.{fresh_work}
 use Rattle.optimiser.specs.declared.Finished.{Finished}
-use Rattle.optimiser.specs.declared.Finished.TheVariants.{Node, Refused}
 use Rattle.optimiser.specs.Worked.{Fresh, finish_at, WorkedOk}
 
 -- ---- the driver's outcome
 
 module _ (w : Work) (n : ℕ) where
-  pub finish_same : w.last ≡ Same → Node n w ≡ finish_at n w w.last
+  pub finish_same : w.last ≡ Same → Ok (record { node = n; work = w }) ≡ finish_at n w w.last
   unfolding finish_at
-  finish_same e = let P : Outcome → Type 0 = λ o. Node n w ≡ finish_at n w o in subst P (sym e) refl
+  finish_same e = let P : Outcome → Type 0 = λ o. Ok (record { node = n; work = w }) ≡ finish_at n w o in subst P (sym e) refl
 
-  pub finish_changed : (m : ℕ) → w.last ≡ Changed m → Node m w ≡ finish_at n w w.last
+  pub finish_changed : (m : ℕ) → w.last ≡ Changed m → Ok (record { node = m; work = w }) ≡ finish_at n w w.last
   unfolding finish_at
-  finish_changed m e = let P : Outcome → Type 0 = λ o. Node m w ≡ finish_at n w o in subst P (sym e) refl
+  finish_changed m e = let P : Outcome → Type 0 = λ o. Ok (record { node = m; work = w }) ≡ finish_at n w o in subst P (sym e) refl
 
-  pub finish_stopped : (r : Refusal) → w.last ≡ Stopped r → Refused r ≡ finish_at n w w.last
+  pub finish_stopped : (r : Refusal) → w.last ≡ Stopped r → Err r ≡ finish_at n w w.last
   unfolding finish_at
   finish_stopped r e = rw (e, finish_at)
 
@@ -61,25 +60,31 @@ module _ (w : Work) (n : ℕ) where
 pub row_known : (row : List (List ℕ)) → leb count_records (length row) ≡ true → count_records ≤ length row
 row_known row e = leb_yes count_records (length row) e
 
-module _ (f s s₁ : List ℕ) (c : Charges) (p : Patterns) (h : Fresh f s c p) (m : Made) (o : FormOk f s s₁ (length f) 0 c m) where
+module _ (f s s₁ : List ℕ) (c : Charges) (p : Patterns) (h : Fresh f s c p) (m : Result Made Refusal) (o : FormOk f s s₁ (length f) 0 c m) where
   whole : read_form f 0 ≡ read_form (span f 0 (length f)) c.units
   whole = ap₂ read_form (sym (span_all f)) (sym h.units)
 
-  pub read_refused : (n : Refusal) → m ≡ not_made n → WorkedOk f s₁ (Refused n)
+  pub read_refused : (n : Refusal) → m ≡ Err n → WorkedOk f s₁ (Err n)
   unfolding WorkedOk FormOk worked
   read_refused n e = go (same_stops whole (rw e at o))
     where
       go : Stops (read_form f 0) n → StoppedBy n (worked f)
       go (stops r i) = record { after = after_reading r; stops = rw (i, worked) }
 
-  pub refused_noted : (notes : Notes) (row : List (List ℕ)) (n : Refusal) → m ≡ not_made n → Noted notes row row (ends_in f)
+  pub refused_noted : (notes : Notes) (row : List (List ℕ)) (n : Refusal) → m ≡ Err n → Noted notes row row (ends_in f)
   unfolding FormOk
   refused_noted notes row n e = go (same_stops whole (rw e at o))
     where
       go : Stops (read_form f 0) n → Noted notes row row (ends_in f)
       go (stops r i) = noted_empty notes row (ends_in f) (ends_unread f n r i)
 
-  module _ (q : ℕ) (d : Charges) (e : m ≡ made q d) where
+  module _ (tree : Made) (e : m ≡ Ok tree) where
+    abbrev q : ℕ
+    q = tree.node
+
+    abbrev d : Charges
+    d = tree.ch
+
     to : ReadTo f s s₁ (length f) 0 c d (read_form (span f 0 (length f)) c.units) q (length f)
     unfolding FormOk
     to = rw e at o
@@ -99,7 +104,7 @@ module _ (f s s₁ : List ℕ) (c : Charges) (p : Patterns) (h : Fresh f s c p) 
     pub worked_noted : (notes : Notes) (row row₁ : List (List ℕ)) → Noted notes row row₁ (ends nesting_limit (tree_at f s₁ q) (spent_of (fresh_work d))) → Noted notes row row₁ (ends_in f)
     worked_noted notes row row₁ k = noted_as notes row row₁ _ _ k (ends_read f (tree_at f s₁ q) (left_from f (length f) (length f) d.units) form_is)
 
-    pub read_worked : (s₂ : List ℕ) (w : Work) (x : Finished) → x ≡ finish_at q w w.last
+    pub read_worked : (s₂ : List ℕ) (w : Work) (x : Result Finished Refusal) → x ≡ finish_at q w w.last
         → Did f s₁ s₂ (fresh_work d) (tree_at f s₁ q) (optimize_sexp nesting_limit (tree_at f s₁ q) (spent_of (fresh_work d))) w → WorkedOk f s₂ x
     unfolding Did Says WorkedOk finish_at
     read_worked s₂ w x e i = rw e (go w.last i)

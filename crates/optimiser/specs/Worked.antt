@@ -1,4 +1,6 @@
 -- The steps of `optimise`: a run's work in the room.
+use Rattle.refusals.specs.declared.Refusal.{Refusal}
+use Rattle.std.specs.Prelude.{Result, Ok, Err, Option, Some, None}
 use Rattle.std.specs.Prelude.{ℕ, ◌≡◌, List}
 use Rattle.meaning.specs.Meter.{done}
 use Rattle.meaning.specs.Run.{worked}
@@ -13,7 +15,6 @@ use Rattle.run_state.specs.declared.Outcome.TheVariants.{Same, Changed, Stopped}
 use Rattle.run_state.specs.declared.Work.{Work}
 use Rattle.run_state.specs.Work.{spent_of, StoppedBy}
 use Rattle.optimiser.specs.declared.Finished.{Finished}
-use Rattle.optimiser.specs.declared.Finished.TheVariants.{Node, Refused}
 
 -- a store that has the patterns, and in which nothing is charged yet
 pub record Fresh (f s : List ℕ) (c : Charges) (p : Patterns) : Type 0 where
@@ -22,10 +23,10 @@ pub record Fresh (f s : List ℕ) (c : Charges) (p : Patterns) : Type 0 where
   pub units : c.units ≡ 0
 
 -- what the driver says of the node n
-unfoldable pub finish_at : ℕ → Work → Outcome → Finished
-finish_at n w Same = Node n w
-finish_at n w (Changed m) = Node m w
-finish_at n w (Stopped r) = Refused r
+unfoldable pub finish_at : ℕ → Work → Outcome → Result Finished Refusal
+finish_at n w Same = Ok (record { node = n; work = w })
+finish_at n w (Changed m) = Ok (record { node = m; work = w })
+finish_at n w (Stopped r) = Err r
 
 -- the form f is worked to the tree of node n, which can be written, and w says what was spent
 pub record WorkedTo (f s : List ℕ) (n : ℕ) (w : Work) : Type 0 where
@@ -33,6 +34,6 @@ pub record WorkedTo (f s : List ℕ) (n : ℕ) (w : Work) : Type 0 where
   pub is : worked f ≡ done (tree_at f s n) (spent_of w)
 
 -- the form's work, in a room that is now s
-unfoldable pub WorkedOk : List ℕ → List ℕ → Finished → Type 0
-WorkedOk f s (Node n w) = WorkedTo f s n w
-WorkedOk f s (Refused r) = StoppedBy r (worked f)
+unfoldable pub WorkedOk : List ℕ → List ℕ → Result Finished Refusal → Type 0
+WorkedOk f s (Ok a) = WorkedTo f s a.node a.work
+WorkedOk f s (Err r) = StoppedBy r (worked f)

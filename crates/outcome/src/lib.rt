@@ -33,9 +33,8 @@ pub fn print_optimised(
     match optimiser::optimise(form, room, out) {
         Answer::Refused(e) => lines::print_no(text, at, refusals::number_of(e)),
         Answer::Answered(r) => {
-            let n = r.length;
             let numbers = [r.passes, r.units, r.mark as usize];
-            print_answer(&out[..n], &numbers, text, at)
+            print_answer(&out[..r.length], &numbers, text, at)
         }
     }
 }
@@ -53,10 +52,7 @@ pub fn print_evaluated(
 {
     match evaluation::evaluate(forms, first, room, out) {
         EvalAnswer::Refused(e) => lines::print_no(text, at, refusals::number_of(e)),
-        EvalAnswer::Value(n, steps, units) => {
-            let numbers = [steps, units];
-            print_answer(&out[..n], &numbers, text, at)
-        }
+        EvalAnswer::Value(n, steps, units) => print_answer(&out[..n], &[steps, units], text, at),
     }
 }
 
@@ -72,9 +68,6 @@ pub fn print_written(
 {
     match form::write(form, room, out) {
         WriteAnswer::Refused(e) => lines::print_no(text, at, refusals::number_of(e)),
-        WriteAnswer::Written(n, units) => {
-            let numbers = [units];
-            print_answer(&out[..n], &numbers, text, at)
-        }
+        WriteAnswer::Written(n, units) => print_answer(&out[..n], &[units], text, at),
     }
 }

@@ -27,7 +27,7 @@ fn read_and_apply(form: &[u8], room: &mut [u8], p: Patterns, ch: Charges, rule: 
 {
     match form::read_form(form, room, 0, form.len(), ch) {
         Made::Refused(e) => Work {
-            ch: ch,
+            ch,
             passes: 0,
             mark: false,
             last: Outcome::Stopped(e),
@@ -43,9 +43,7 @@ fn worked(form: &[u8], room: &mut [u8], rule: usize) -> Work
 {
     let ch = store::start(form, room);
     let a = patterns::lay_patterns(form, room, ch);
-    let p = a.patterns;
-    let c = a.ch;
-    read_and_apply(form, room, p, c, rule)
+    read_and_apply(form, room, a.patterns, a.ch, rule)
 }
 
 // ---- its line
@@ -53,26 +51,22 @@ fn worked(form: &[u8], room: &mut [u8], rule: usize) -> Work
 fn print_same(w: Work, text: &mut [u8], at: usize) -> usize
     ensures { Printed (line_of (same w.ch.units w.mark)) text.old text.new at result }
 {
-    let c = w.ch;
-    let numbers = [c.units, w.mark as usize];
     let a = lines::print_word(text, at, b"same");
-    lines::print_numbers(text, a, &numbers)
+    lines::print_numbers(text, a, &[w.ch.units, w.mark as usize])
 }
 
 fn print_tree(tree: &[u8], w: Work, text: &mut [u8], at: usize) -> usize
     ensures { Printed (line_of (changed tree.now w.ch.units w.mark)) text.old text.new at result }
 {
-    let c = w.ch;
-    let numbers = [c.units, w.mark as usize];
     let a = lines::print_word(text, at, b"changed ");
     let b = lines::print_hex(text, a, tree);
-    lines::print_numbers(text, b, &numbers)
+    lines::print_numbers(text, b, &[w.ch.units, w.mark as usize])
 }
 
 // Prints the new tree, which stands at m, where the output has room for it.
-fn print_changed<'a>(
-    form: &'a [u8],
-    room: &'a [u8],
+fn print_changed(
+    form: &[u8],
+    room: &[u8],
     m: usize,
     w: Work,
     out: &mut [u8],
@@ -101,8 +95,7 @@ fn print_rule(
     ensures { Printed (line_of (said rule form.now (length out.old))) text.old text.new at result }
 {
     let w = worked(form, room, rule);
-    let o = w.last;
-    match o {
+    match w.last {
         Outcome::Same => print_same(w, text, at),
         Outcome::Changed(m) => print_changed(form, room, m, w, out, text, at),
         Outcome::Stopped(e) => lines::print_no(text, at, refusals::number_of(e)),
@@ -118,14 +111,10 @@ fn rule_of(both: &[u8], first: usize) -> usize
     if first != 1 {
         return 0;
     }
-    if both.len() == 0 {
-        return 0;
+    match both {
+        [x, ..] if *x <= 8 => *x as usize,
+        _ => 0,
     }
-    let x = both[0];
-    if 8 < x {
-        return 0;
-    }
-    x as usize
 }
 
 // Prints what the rule that the first line names makes of the second after text[..at]; `no line` where it names none.

@@ -21,7 +21,8 @@ fn start() -> Reading
     }
 }
 
-// Token by token: how many bytes the form has (none where it is too long), where nothing more is wanted at the end; or the place from which on the next token may not stand.
+// Token by token: how many bytes the form has (none is said where it is too long), where nothing more is wanted at the end; or the place
+// from which on the next token may not stand.
 fn take_tokens(
     text: &[u8],
     frames: &mut [Frame],

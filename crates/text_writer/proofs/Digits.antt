@@ -5,11 +5,8 @@ use Prim.Native.Nat.{ℕ, suc, ◌+◌, ◌*◌, ◌/◌, ◌%◌, ◌<◌, ◌�
 use native.Mathlib.Omega.{arith}
 use native.Mathlib.Numerals.{add-one}
 use lib.ListN.{length, take, drop, get_or, set, length-set}
-use lib.Seq.{drop-cons, take-suc, take-length, length-take-le}
-use mir.Syntax.{w64}
-use mir.Val.{Fits}
+use lib.Seq.{drop-cons, take-suc, length-take-le}
 use Rattle.notation.specs.Words.{hex_digit, hex}
-use Rattle.form.specs.Writes.{Wrote}
 
 -- ---- digits
 

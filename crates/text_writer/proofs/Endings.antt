@@ -3,7 +3,7 @@ use mathlib.Core.Path.{◌≡◌, refl, sym, ◌∙◌, ap}
 use mathlib.Core.List.{List, [], ◌∷◌, ◌++◌}
 use mathlib.Core.Bool.{Bool, true, false}
 use mathlib.Core.Option.{some}
-use Prim.Native.Nat.{ℕ, suc, ◌+◌, ◌-◌, ◌*◌, ◌^◌, ◌<◌, ◌≤◌}
+use Prim.Native.Nat.{ℕ, suc, ◌+◌, ◌-◌, ◌*◌, ◌<◌, ◌≤◌}
 use native.Mathlib.Omega.{arith}
 use lib.ListN.{length, drop, get_or, set, length-set, length-append}
 use lib.Seq.{drop-cons, set_at, append_snoc}
@@ -14,10 +14,10 @@ use Rattle.meaning.proofs.Tests.{on_bool}
 use Rattle.store.proofs.Places.{whether}
 use Rattle.notation.specs.declared.Place.{Place}
 use Rattle.notation.specs.Words.{names, name_of, hex, atom_text}
-use Rattle.notation.specs.Texts.{text_at, text_rest}
+use Rattle.notation.specs.Texts.{text_rest}
 use Rattle.form.specs.Writes.{Wrote}
-use Rattle.form.proofs.Lend.{lent, back, lent_length, back_length, one_set, two_set, wrote_length, then_wrote}
-use Rattle.text_writer.specs.Parts.{part_text, has_name}
+use Rattle.form.proofs.Lend.{lent, back, lent_length, one_set, two_set, wrote_length, then_wrote}
+use Rattle.text_writer.specs.Parts.{has_name}
 use Rattle.text_writer.proofs.Names.{name_is, byte_low, byte_high, text_named, text_nil, text_hex}
 use Rattle.text_writer.proofs.Digits.{hex_length}
 

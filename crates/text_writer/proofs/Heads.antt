@@ -1,19 +1,15 @@
 -- What each return of the questions about places needs. Assumes nothing.
-use mathlib.Core.Logic.{◌⊎◌, inl, inr}
-use mathlib.Core.Path.{◌≡◌, refl, sym, ◌∙◌}
+use mathlib.Core.Path.{◌≡◌, sym, ◌∙◌}
 use mathlib.Core.List.{List}
 use mathlib.Core.Bool.{Bool, false}
 use Prim.Native.Nat.{ℕ}
-use Rattle.meaning.specs.Tree.{Tree, is_byte}
+use Rattle.meaning.specs.Tree.{is_byte}
 use Rattle.store.specs.declared.Cell.{Cell}
 use Rattle.store.specs.declared.Cell.TheVariants.{Pair, Atom}
 use Rattle.store.specs.Cells.{cell_at, bytes_at}
 use Rattle.store.specs.Nodes.{tree_at}
 use Rattle.store.proofs.Trees.{tree_pair, tree_atom}
-use Rattle.notation.specs.declared.Place.{Place}
-use Rattle.notation.specs.declared.Place.TheVariants.{Operator, Code, Data}
-use Rattle.meaning.proofs.Tests.{on_bool}
-use Rattle.notation.specs.Texts.{is_one, after, place_after}
+use Rattle.notation.specs.Texts.{is_one}
 
 -- ---- the atom 1
 

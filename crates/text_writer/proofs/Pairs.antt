@@ -20,7 +20,7 @@ use Rattle.notation.specs.declared.Place.{Place}
 use Rattle.notation.specs.declared.Place.TheVariants.{Code}
 use Rattle.notation.specs.Texts.{after, text_at, text_rest, text_of}
 use Rattle.form.specs.Writes.{Short, Writable, Wrote, extent, Delivered}
-use Rattle.form.proofs.Lend.{lent, back, lent_length, back_length, one_set, wrote_length, then_wrote}
+use Rattle.form.proofs.Lend.{lent, back, lent_length, one_set, wrote_length, then_wrote}
 use Rattle.form.proofs.Writer.{extent_over, extent_long, Is, writable_left}
 use Rattle.form.proofs.Delivering as delivering
 use Rattle.text_writer.specs.Parts.{part_text, part_place, first_byte}

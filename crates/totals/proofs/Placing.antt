@@ -1,4 +1,5 @@
 -- place and add_form: each need. Assumes nothing.
+use Rattle.std.specs.Prelude.{Result, Ok, Err, Option, Some, None}
 use mathlib.Core.Path.{◌≡◌, refl, sym, ◌∙◌, ap}
 use mathlib.Core.List.{List, [], ◌∷◌}
 use mathlib.Core.Bool.{Bool, true, false, not}
@@ -20,8 +21,6 @@ use Rattle.meaning.proofs.Lent.{zeroed_same}
 use Rattle.meaning.proofs.RunLaws.{run_zeros}
 use Rattle.meaning.proofs.LogRun.{work_within, work_refused}
 use Rattle.store.specs.Nodes.{tree_at}
-use Rattle.form.specs.declared.Extent.{Extent}
-use Rattle.form.specs.declared.Extent.TheVariants.{Long, Over}
 use Rattle.form.specs.Writes.{Writable, extent}
 use Rattle.run_state.specs.declared.Work.{Work}
 use Rattle.run_state.specs.declared.Notes.TheVariants.{Counts}
@@ -29,7 +28,6 @@ use Rattle.run_state.specs.Work.{spent_of, StoppedBy}
 use Rattle.run_state.specs.Notes.{count_in, counts_of, Noted}
 use Rattle.run_state.proofs.Counting.{counts_exact}
 use Rattle.optimiser.specs.declared.Finished.{Finished}
-use Rattle.optimiser.specs.declared.Finished.TheVariants.{Node as finished, Refused as not-finished}
 use Rattle.optimiser.specs.Worked.{WorkedTo, WorkedOk}
 use Rattle.totals.specs.declared.Savings.{Savings}
 use Rattle.totals.specs.declared.Column.TheVariants.{Answered, Refused, Full}
@@ -54,11 +52,11 @@ answer_same s a b c d f g e = rw e refl
 
 -- ---- place
 
-module _ (f s : List ℕ) (x : Finished) (o : WorkedOk f s x) (r : Savings) where
+module _ (f s : List ℕ) (x : Result Finished Refusal) (o : WorkedOk f s x) (r : Savings) where
   abbrev whole : Outcome
   whole = ended (deliver_run output_most) (worked f)
 
-  module _ (n : Refusal) (e : x ≡ not-finished n) where
+  module _ (n : Refusal) (e : x ≡ Err n) where
     stopped : StoppedBy n (worked f)
     unfolding WorkedOk
     stopped = rw e at o
@@ -74,7 +72,13 @@ module _ (f s : List ℕ) (x : Finished) (o : WorkedOk f s x) (r : Savings) wher
     unfolding with_outcome column_of
     placed_stop a h = record { savings = h.0 ∙ rw is_refused refl; column = h.1 ∙ rw is_refused refl }
 
-  module _ (n : ℕ) (w : Work) (e : x ≡ finished n w) where
+  module _ (y : Finished) (e : x ≡ Ok y) where
+    abbrev n : ℕ
+    n = y.node
+
+    abbrev w : Work
+    w = y.work
+
     to : WorkedTo f s n w
     unfolding WorkedOk
     to = rw e at o
@@ -86,25 +90,25 @@ module _ (f s : List ℕ) (x : Finished) (o : WorkedOk f s x) (r : Savings) wher
     unfolding ended deliver_run deliver_tree
     delivers = rw (to.is, ended)
 
-    module _ (t : Extent) (et : t ≡ extent 32768 (length (write (tree_at f s n)))) where
-      over : t ≡ Over → leb (length (write (tree_at f s n))) 32768 ≡ false
+    module _ (t : Option ℕ) (et : t ≡ extent 32768 (length (write (tree_at f s n)))) where
+      over : t ≡ None → leb (length (write (tree_at f s n))) 32768 ≡ false
       unfolding extent
-      over i = on_bool (leb (length (write (tree_at f s n))) 32768) (λ y. let z : Over ≡ Long (length (write (tree_at f s n))) = sym i ∙ et ∙ rw (y, extent) in absurd (let q : ◌≡◌ {A = ℕ} 0 1 = cc in omega arith)) (λ y. y)
+      over i = on_bool (leb (length (write (tree_at f s n))) 32768) (λ y. let z : None ≡ Some (length (write (tree_at f s n))) = sym i ∙ et ∙ rw (y, extent) in absurd (let q : ◌≡◌ {A = ℕ} 0 1 = cc in omega arith)) (λ y. y)
 
-      is_over : t ≡ Over → ended (deliver_run output_most) (worked f) ≡ refused OutputShort
+      is_over : t ≡ None → ended (deliver_run output_most) (worked f) ≡ refused OutputShort
       unfolding deliver
       is_over i = delivers ∙ rw (over i, deliver)
 
-      pub placed_over : t ≡ Over → (a : Added) → (a.savings ≡ with_refusal r OutputShort) × (a.column ≡ Refused OutputShort) → Placed r f (ended (deliver_run output_most) (worked f)) a
+      pub placed_over : t ≡ None → (a : Added) → (a.savings ≡ with_refusal r OutputShort) × (a.column ≡ Refused OutputShort) → Placed r f (ended (deliver_run output_most) (worked f)) a
       unfolding with_outcome column_of
       placed_over i a h = record { savings = h.0 ∙ rw (is_over i) refl; column = h.1 ∙ rw (is_over i) refl }
 
-      module _ (k : ℕ) (i : t ≡ Long k) where
+      module _ (k : ℕ) (i : t ≡ Some k) where
         fits : (leb (length (write (tree_at f s n))) 32768 ≡ true) × (k ≡ length (write (tree_at f s n)))
         unfolding extent
         fits = on_bool (leb (length (write (tree_at f s n))) 32768)
-            (λ y. let z : Long k ≡ Long (length (write (tree_at f s n))) = sym i ∙ et ∙ rw (y, extent) in (y, cc))
-            (λ y. let z : Long k ≡ Over = sym i ∙ et ∙ rw (y, extent) in absurd (let q : ◌≡◌ {A = ℕ} 0 1 = cc in omega arith))
+            (λ y. let z : Some k ≡ Some (length (write (tree_at f s n))) = sym i ∙ et ∙ rw (y, extent) in (y, cc))
+            (λ y. let z : Some k ≡ None = sym i ∙ et ∙ rw (y, extent) in absurd (let q : ◌≡◌ {A = ℕ} 0 1 = cc in omega arith))
 
         pub after_most : k ≤ 32768
         after_most = let z = fits.1 in let y = leb_yes (length (write (tree_at f s n))) 32768 fits.0 in omega (arith, z, y)

@@ -11,7 +11,6 @@ ghost use Rattle.totals.specs.declared.Column.TheVariants.{Refused};
 ghost use Rattle.totals.specs.Savings.{output_most, greater, rules_with, with_answer, with_refusal, sum_from, fewer, small_all, is_open, none_yet};
 ghost use Rattle.totals.specs.Adding.{Counted, Placed, Adds};
 
-use form::Extent;
 use optimiser::Finished;
 use refusals::Refusal;
 use run_state::{Notes, Record};
@@ -162,20 +161,26 @@ fn refused(s: Savings, e: Refusal) -> Added
 }
 
 // The report after the form's work. The finished tree is measured, not written.
-fn place(form: &[u8], room: &[u8], row: &[Record], x: Finished, s: Savings) -> Added
+fn place(
+    form: &[u8],
+    room: &[u8],
+    row: &[Record],
+    x: Result<Finished, Refusal>,
+    s: Savings,
+) -> Added
     requires { (is_open s ≡ true) × WorkedOk form.now room.now x × (count_records ≤ length row.now) × Counted row.now (ends_in form.now) }
     ensures { Placed s form.now (ended (deliver_run output_most) (worked form.now)) result }
 {
     match x {
-        Finished::Refused(e) => refused(s, e),
-        Finished::Node(n, w) => match form::length_node(form, room, n, OUTPUT) {
-            Extent::Over => refused(s, Refusal::OutputShort),
-            Extent::Long(k) => {
+        Err(e) => refused(s, e),
+        Ok(Finished { node, work }) => match form::length_node(form, room, node, OUTPUT) {
+            None => refused(s, Refusal::OutputShort),
+            Some(after) => {
                 let a = Numbers {
                     before: form.len(),
-                    after: k,
-                    passes: w.passes,
-                    mark: w.mark,
+                    after,
+                    passes: work.passes,
+                    mark: work.mark,
                 };
                 Added {
                     savings: with_answer(s, a, row),

@@ -3,9 +3,6 @@ use borrow.Author.Rules.{rules}
 use Rattle.memo.proofs.Comparing as comparing
 use Rattle.memo.proofs.+alike.Goals as goal
 
-pub loop-a-init : goal.loop-a-init
-loop-a-init t c = search comparing.going_starts
-
 pub returns-then-a-b : goal.returns-then-a-b
 returns-then-a-b t c = search comparing.one_node
 

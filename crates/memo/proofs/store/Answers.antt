@@ -2,20 +2,17 @@
 use Rattle.memo.proofs.Storing as storing
 use Rattle.memo.proofs.store.Goals as goal
 
-pub overflow_add-k : goal.overflow_add-k
-overflow_add-k c = search storing.behind_fits
+pub returns-then-row-st : goal.returns-then-row-st
+returns-then-row-st c = search storing.row_full
 
-pub returns-then-row-k : goal.returns-then-row-k
-returns-then-row-k c = search storing.row_full
+pub returns-then-st-b : goal.returns-then-st-b
+returns-then-st-b c = search storing.no_pass
 
-pub returns-then-a-b : goal.returns-then-a-b
-returns-then-a-b c = search storing.no_pass
+pub returns-then-st-ge65536 : goal.returns-then-st-ge65536
+returns-then-st-ge65536 c = search storing.none_left
 
-pub returns-then-a-ge65536 : goal.returns-then-a-ge65536
-returns-then-a-ge65536 c = search storing.none_left
-
-pub entry_of-e-requires : goal.entry_of-e-requires
-entry_of-e-requires c = search storing.store_small
+pub entry_of-requires : goal.entry_of-requires
+entry_of-requires c = search storing.store_small
 
 pub returns : goal.returns
 returns c = search storing.one_more

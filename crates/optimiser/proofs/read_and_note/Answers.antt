@@ -1,13 +1,14 @@
--- read_and_note: an answer for each need; what carries weight stands in the laws.
-use Rattle.optimiser.proofs.Working as laws
+-- read_and_note: the form, and then the driver, which notes.
 use borrow.Author.Rules.{rules}
+use Rattle.std.proofs.lemmas.Result.{err_from_is_err_and}
+use Rattle.optimiser.proofs.Working as laws
 use Rattle.optimiser.proofs.read_and_note.Goals as goal
 
 pub optimize_node-w-requires : goal.optimize_node-w-requires
-optimize_node-w-requires c = (search laws.read_ready, search laws.read_patterned, search rules)
+optimize_node-w-requires c = (search (laws.read_ready, c.in_ok-tree.was), search (laws.read_patterned, c.in_ok-tree.was), search rules)
 
-pub returns-in-Refused : goal.returns-in-Refused
-returns-in-Refused c = (search laws.read_refused, search laws.refused_noted)
+pub returns-in_err-tree : goal.returns-in_err-tree
+returns-in_err-tree c = let p = err_from_is_err_and c.from_residual.result c.from_residual.ensures.1 in rw (p.1, p.2) ((search (laws.read_refused, c.in_err-tree.was), search (laws.refused_noted, c.in_err-tree.was)))
 
-pub returns-in-Node : goal.returns-in-Node
-returns-in-Node c = (search laws.read_worked, search laws.worked_noted)
+pub returns : goal.returns
+returns c = (search (laws.read_worked, c.in_ok-tree.was), search (laws.worked_noted, c.in_ok-tree.was))

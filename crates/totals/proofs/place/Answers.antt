@@ -12,11 +12,11 @@ length_node-requires c = search placing.place_writable
 pub with_answer-requires : goal.with_answer-requires
 with_answer-requires c = (search rules, search placing.before_most, search placing.after_most, search rules)
 
-pub returns-in-Refused : goal.returns-in-Refused
-returns-in-Refused c = search placing.placed_stop
+pub returns-in-Err : goal.returns-in-Err
+returns-in-Err c = search placing.placed_stop
 
-pub returns-in-Over : goal.returns-in-Over
-returns-in-Over c = search placing.placed_over
+pub returns-in-None : goal.returns-in-None
+returns-in-None c = search placing.placed_over
 
-pub returns-in-Long : goal.returns-in-Long
-returns-in-Long c = search placing.placed_answer
+pub returns-in-Some : goal.returns-in-Some
+returns-in-Some c = search placing.placed_answer
