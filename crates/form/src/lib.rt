@@ -443,7 +443,7 @@ pub fn deliver_node<'a>(form: &'a [u8], room: &'a [u8], n: usize, out: &mut [u8]
 // ---- two forms in one slice
 
 // Where the first form ends: all bytes are its own where there are no more than first.
-fn cut(forms: &[u8], first: usize) -> usize
+pub fn cut(forms: &[u8], first: usize) -> usize
     ensures { Cut forms.now first result }
 {
     first.min(forms.len())

@@ -6,6 +6,7 @@ use mathlib.Core.Bool.{Bool, true, false}
 use lib.Dec.{leb}
 use lib.ListN.{length, take}
 use native.Mathlib.Omega.{arith}
+use Rattle.std.specs.Prelude.{Ok}
 use Rattle.refusals.specs.declared.Refusal.TheVariants.{RoomSmall, OutputShort}
 use Rattle.meaning.specs.Tree.{Tree}
 use Rattle.meaning.specs.Limits.{room_least}
@@ -13,7 +14,6 @@ use Rattle.meaning.specs.Meter.{Out, done, stop}
 use Rattle.meaning.specs.Form.{Reading, read_form, IsBytes}
 use Rattle.meaning.specs.Outcome.{plain, answered, refused, deliver, ended, in_room, Settles}
 use Rattle.meaning.proofs.Lent.{told_answer}
-use Rattle.form.specs.declared.WriteAnswer.TheVariants.{Written}
 use Rattle.form.specs.Bytes.{write_outcome, write_says}
 use Rattle.form.proofs.Back.{WasRead}
 use Rattle.notation.specs.Texts.{text_of}
@@ -44,7 +44,7 @@ module _ (form bytes ns : List ℕ) (n m : ℕ) where
 
 module _ (form room out room' out' : List ℕ) (b : IsBytes form) where
   -- Where `write_text` answers n bytes, `read_text` of them has, in any room and output, the outcome that `form::write` has of the form.
-  pub text_back : (n units : ℕ) → Settles write_says (write_text_outcome form (length room) (length out)) room room' out out' (Written n units)
+  pub text_back : (n units : ℕ) → Settles write_says (write_text_outcome form (length room) (length out)) room room' out out' (Ok (record { length = n; units = units }))
       → (room-length out-length : ℕ) → read_text_outcome (take n out') room-length out-length ≡ write_outcome form room-length out-length
   unfolding write_says read_text_outcome write_outcome
   text_back n units h k m =

@@ -7,13 +7,13 @@ pub returns-then-room-lt-ROOM : goal.returns-then-room-lt-ROOM
 returns-then-room-lt-ROOM c = search laws.read_small
 
 pub slice_bounds-form-end : goal.slice_bounds-form-end
-slice_bounds-form-end c = laws.converted_within _ _ _ c.form_of_text.ensures _ c.in-Form.is (search rules)
+slice_bounds-form-end c = laws.converted_within _ _ _ c.form_of_text.ensures _ c.in-Ok.is (search rules)
 
 pub slice_bounds-write-end : goal.slice_bounds-write-end
-slice_bounds-write-end c = laws.converted_count _ _ _ c.form_of_text.ensures _ c.in-Form.is (search rules)
+slice_bounds-write-end c = laws.converted_count _ _ _ c.form_of_text.ensures _ c.in-Ok.is (search rules)
 
-pub returns-in-Refused : goal.returns-in-Refused
-returns-in-Refused c = search laws.read_refused
+pub returns-in-Err : goal.returns-in-Err
+returns-in-Err c = search laws.read_refused
 
-pub returns-in-Form : goal.returns-in-Form
-returns-in-Form c = search laws.read_written
+pub returns-in-Ok : goal.returns-in-Ok
+returns-in-Ok c = search laws.read_written

@@ -1,13 +1,17 @@
--- value_of_forms: the work, and then the delivery.
+-- value_of_forms: by what the work said, and what deliver_text says.
 use Rattle.texts.proofs.Values as laws
 use Rattle.evaluation.proofs.Bytes.{value_writable}
+use Rattle.std.proofs.lemmas.Result.{err_from_is_err_and}
 use Rattle.texts.proofs.value_of_forms.Goals as goal
 
-pub deliver_value-requires : goal.deliver_value-requires
-deliver_value-requires c = search value_writable
+pub deliver_text-requires : goal.deliver_text-requires
+deliver_text-requires c = search (value_writable, c.in_ok-node.was)
 
-pub returns-in-Refused : goal.returns-in-Refused
-returns-in-Refused c = search laws.value_refused
+pub returns-in_err-node : goal.returns-in_err-node
+returns-in_err-node c = let p = err_from_is_err_and c.from_residual.result c.from_residual.ensures.1 in rw (p.1, p.2) (search (laws.value_refused, c.in_err-node.was))
 
-pub returns-in-Value : goal.returns-in-Value
-returns-in-Value c = search laws.value_done
+pub returns-in_err-length : goal.returns-in_err-length
+returns-in_err-length c = let p = err_from_is_err_and c.from_residual-in_err-length.result c.from_residual-in_err-length.ensures.1 in rw (p.1, p.2) (search (laws.value_over, c.in_ok-node.was, c.in_err-length.ensures.value, c.in_err-length.ensures.ok_part))
+
+pub returns : goal.returns
+returns c = search (laws.value_fits, c.in_ok-node.was, c.in_ok-length.ensures.ok_part)
