@@ -1,5 +1,5 @@
 -- The memo in the driver's cycle: every entry stays valid, and what ended is stored. Assumes nothing.
-use Rattle.std.specs.Prelude.{Result, Ok, Err, Option as Perhaps, Some, None}
+use Rattle.std.specs.Prelude.{Option as Perhaps, Some}
 use mathlib.Core.Path.{◌≡◌, refl, sym, ◌∙◌, ap, subst}
 use mathlib.Core.List.{List}
 use mathlib.Core.Bool.{Bool, true, false, ◌||◌}

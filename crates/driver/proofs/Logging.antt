@@ -1,5 +1,5 @@
 -- What is noted in the driver's cycle: each return, and what is left to note at each loop's head. Assumes nothing.
-use Rattle.std.specs.Prelude.{Result, Ok, Err, Option as Perhaps, Some, None}
+use Rattle.std.specs.Prelude.{Option as Perhaps, Some, None}
 use mathlib.Core.Path.{◌≡◌, refl, sym, ◌∙◌, ap, subst}
 use mathlib.Core.List.{List, [], ◌++◌, append-nil}
 use mathlib.Core.Bool.{Bool, true, false, not}

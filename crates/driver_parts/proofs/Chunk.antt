@@ -1,5 +1,5 @@
 -- operands: what holds at its loop's head, and each need there. Assumes nothing.
-use Rattle.std.specs.Prelude.{Result, Ok, Err, Option as Perhaps, Some, None}
+use Rattle.std.specs.Prelude.{Option as Perhaps, Some, None}
 use mathlib.Core.Path.{◌≡◌, refl, sym, ◌∙◌, ap, subst}
 use mathlib.Core.List.{List}
 use mathlib.Core.Bool.{Bool, true, false, ◌||◌, not, or-false}

@@ -1,5 +1,5 @@
 -- put_before and worked_into, by what the work says. Assumes nothing.
-use Rattle.std.specs.Prelude.{Result, Ok, Err, Option as Perhaps, Some, None}
+use Rattle.std.specs.Prelude.{Some, None}
 use mathlib.Core.Path.{◌≡◌, refl, sym, subst}
 use mathlib.Core.List.{List}
 use mathlib.Core.Bool.{Bool, true, false, ◌||◌}

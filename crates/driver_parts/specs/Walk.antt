@@ -1,5 +1,5 @@
 -- The walk over a list that rules 4 and 5 share, and what it says.
-use Rattle.std.specs.Prelude.{Result, Ok, Err, Option as Perhaps, Some, None}
+use Rattle.std.specs.Prelude.{Option as Perhaps, Some, None}
 use Rattle.std.specs.Prelude.{ℕ, zero, suc, ◌≡◌, List, Bool, true, false, not, ◌||◌, get_or}
 use Rattle.std.proofs.Math.Option.{Option, none, some}
 use Rattle.refusals.specs.declared.Refusal.{Refusal}

@@ -28,7 +28,6 @@ use Rattle.evaluator.specs.declared.Meter.{Meter}
 use Rattle.evaluator.specs.declared.Operator.{Operator}
 use Rattle.evaluator.specs.declared.Head.{Head}
 use Rattle.evaluator.specs.declared.Head.TheVariants.{Quote, Call, Other}
-use Rattle.evaluator.specs.declared.Values.{Values}
 use Rattle.evaluator.specs.declared.Valued.{Valued}
 use Rattle.evaluator.specs.declared.Args.{Args}
 use Rattle.evaluator.specs.declared.Performed.{Performed}

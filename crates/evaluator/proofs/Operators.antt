@@ -16,7 +16,6 @@ use Rattle.meaning.specs.Meter.{Out, Steps, done, stop, give, refuse, charge_e}
 use Rattle.meaning.specs.Operator.{makes, cannot, yes_no, chosen, left_of, right_of, is_pair, same_atom, one, two, three, perform}
 use Rattle.meaning.specs.Evaluate.{RunnerB, finish_b, evaluate}
 use Rattle.meaning.proofs.MeterLaws.{seq_at}
-use Rattle.store.specs.declared.Charges.{Charges}
 use Rattle.store.specs.declared.Made.{Made}
 use Rattle.store.specs.declared.Cell.{Cell}
 use Rattle.store.specs.declared.Cell.TheVariants.{Pair, Atom}

@@ -1,6 +1,6 @@
 -- Reading and writing on bytes alone: from the form's bytes, and the lengths of the lent room and output, to the outcome.
 use Rattle.refusals.specs.declared.Refusal.{Refusal}
-use Rattle.std.specs.Prelude.{Result, Ok, Err, Option, Some, None}
+use Rattle.std.specs.Prelude.{Result, Ok, Err}
 use Rattle.std.specs.Prelude.{ℕ, List, [], ◌∷◌}
 use Rattle.refusals.specs.Numbers.{number_of}
 use Rattle.meaning.specs.Tree.{Tree}

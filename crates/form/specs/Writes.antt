@@ -1,5 +1,5 @@
 -- What the writer of a node asks and promises.
-use Rattle.std.specs.Prelude.{Result, Ok, Err, Option, Some, None}
+use Rattle.std.specs.Prelude.{Option, Some, None}
 use Rattle.std.specs.Prelude.{ℕ, ◌+◌, ◌≤◌, ◌<◌, ◌≡◌, List, ◌++◌, Bool, true, false, length, take, drop, leb}
 use Rattle.meaning.specs.Tree.{Tree, atom, pair, same_bytes}
 use Rattle.store.specs.Cells.{Room}

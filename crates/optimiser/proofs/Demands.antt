@@ -3,7 +3,7 @@
 -- `optimise(form, room, out)` asks nothing of its caller and ensures `Optimised form room out answer room' out'` (specs/Optimised.antt):
 -- form, room and out are the lent bytes before, room' and out' after. The check proves that it ends on every input.
 -- What the definitions are is in crates/meaning: `run`, `read_form`, `optimize_sexp`, `write`, `Gives`.
-use Rattle.std.specs.Prelude.{Result, Ok, Err, Option, Some, None}
+use Rattle.std.specs.Prelude.{Result, Ok, Err}
 use Prim.Native.Nat.{ℕ, ◌<◌, ◌≤◌}
 use mathlib.Core.Path.{◌≡◌, sym, ◌∙◌, ap, ap₂, subst}
 use mathlib.Core.List.{List}

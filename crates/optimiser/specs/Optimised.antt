@@ -1,6 +1,6 @@
 -- What `optimise` answers and what every lent byte holds after it: from the definition's run.
 use Rattle.refusals.specs.declared.Refusal.{Refusal}
-use Rattle.std.specs.Prelude.{Result, Ok, Err, Option, Some, None}
+use Rattle.std.specs.Prelude.{Result, Ok, Err}
 use Rattle.std.specs.Prelude.{ℕ, List, [], ◌∷◌, length}
 use Rattle.refusals.specs.Numbers.{number_of}
 use Rattle.meaning.specs.Outcome.{plain, Told, values, number, Settles}

@@ -1,6 +1,6 @@
 -- The steps of `optimise`: a run's work in the room.
 use Rattle.refusals.specs.declared.Refusal.{Refusal}
-use Rattle.std.specs.Prelude.{Result, Ok, Err, Option, Some, None}
+use Rattle.std.specs.Prelude.{Result, Ok, Err}
 use Rattle.std.specs.Prelude.{ℕ, ◌≡◌, List}
 use Rattle.meaning.specs.Meter.{done}
 use Rattle.meaning.specs.Run.{worked}

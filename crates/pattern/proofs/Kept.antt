@@ -1,5 +1,5 @@
 -- Bindings: what a growing store keeps of them, and what get and insert answer.
-use Rattle.std.specs.Prelude.{Option as Got, Some, None}
+use Rattle.std.specs.Prelude.{Some, None}
 use mathlib.Core.Path.{◌≡◌, refl, sym, ◌∙◌}
 use mathlib.Core.List.{List, [], ◌∷◌}
 use mathlib.Core.Bool.{Bool, true, false}

@@ -1,5 +1,5 @@
 -- Rule 2: what each return needs. Assumes nothing.
-use Rattle.std.specs.Prelude.{Result, Ok, Err, Option as Got, Some, None}
+use Rattle.std.specs.Prelude.{Result, Ok, Err}
 use Prim.Native.Nat.{ℕ, ◌+◌}
 use mathlib.Core.Path.{◌≡◌, refl, sym, ◌∙◌, ap}
 use mathlib.Core.List.{List, [], ◌∷◌}

@@ -1,6 +1,6 @@
 -- Rule 6: what each call and each return needs. Assumes nothing.
 use Rattle.refusals.specs.declared.Refusal.{Refusal}
-use Rattle.std.specs.Prelude.{Result, Ok, Err, Option as Got, Some, None}
+use Rattle.std.specs.Prelude.{Result, Option as Got, Some, None}
 use Prim.Native.Nat.{ℕ, ◌-◌, ◌≤◌, ◌<◌}
 use native.Mathlib.Omega.{arith}
 use mathlib.Core.Path.{◌≡◌, refl, sym, ◌∙◌, ap}

@@ -1,5 +1,5 @@
 -- Rules 1, 3, 7 and 8, which only rewrite: what each return needs. Assumes nothing.
-use Rattle.std.specs.Prelude.{Result, Ok, Err, Option as Got, Some, None}
+use Rattle.std.specs.Prelude.{Option as Got, Some, None}
 use Prim.Native.Nat.{ℕ}
 use mathlib.Core.Path.{◌≡◌, refl, sym, ◌∙◌, ap, ap₂}
 use mathlib.Core.List.{List, []}

@@ -1,5 +1,5 @@
 -- What the rules' own functions answer and ask.
-use Rattle.std.specs.Prelude.{Result, Ok, Err, Option as Got, Some, None}
+use Rattle.std.specs.Prelude.{Option as Got, Some, None}
 use Rattle.std.specs.Prelude.{ℕ, ◌≡◌, List, false}
 use Rattle.std.proofs.Math.Option.{some}
 use Rattle.meaning.specs.Tree.{Tree, atom, equal_to}

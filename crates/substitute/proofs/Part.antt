@@ -1,6 +1,6 @@
 -- `cons_f` and `cons_r`: what they give and cost, where the arguments are (c A B) and where they are not. Assumes nothing.
 use Rattle.refusals.specs.declared.Refusal.{Refusal}
-use Rattle.std.specs.Prelude.{Result, Ok, Err, Option as Got, Some, None}
+use Rattle.std.specs.Prelude.{Result, Ok, Option as Got, Some, None}
 use Prim.Native.Nat.{ℕ, ◌+◌}
 use mathlib.Core.Path.{◌≡◌, refl, sym, ◌∙◌, ap}
 use mathlib.Core.List.{List, [], ◌∷◌}

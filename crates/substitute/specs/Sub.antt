@@ -1,6 +1,6 @@
 -- What substitution on nodes answers: meaning's tree, its cost and its low atoms.
 use Rattle.refusals.specs.declared.Refusal.{Refusal}
-use Rattle.std.specs.Prelude.{Result, Ok, Err, Option as Got, Some, None}
+use Rattle.std.specs.Prelude.{Result, Ok, Err}
 use Rattle.std.specs.Prelude.{ℕ, ◌+◌, ◌≡◌, List, [], Bool, true, false, ◌&&◌, ◌||◌}
 use Rattle.std.proofs.Math.Option.{Option}
 use Rattle.meaning.specs.Tree.{Tree, atom, pair}

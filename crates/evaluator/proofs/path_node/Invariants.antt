@@ -1,5 +1,4 @@
 -- path_node: an answer for each need; what carries weight stands in the laws.
-use Prim.Native.Nat.{◌-◌}
 use Rattle.evaluator.proofs.Walk as walk
 use Rattle.evaluator.proofs.path_node.Given as goal
 

@@ -1,6 +1,5 @@
 -- with_next: an answer for each need; what carries weight stands in the laws.
 use Rattle.form.proofs.Reader as laws
-use Rattle.std.proofs.Common.{rules}
 use Rattle.std.proofs.lemmas.Result.{err_from_is_err_and}
 use Rattle.form.proofs.with_next.Goals as goal
 

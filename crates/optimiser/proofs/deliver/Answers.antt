@@ -1,5 +1,4 @@
 -- deliver: by what deliver_node says.
-use Rattle.std.proofs.Common.{rules}
 use Rattle.std.proofs.lemmas.Result.{err_from_is_err_and}
 use Rattle.optimiser.proofs.Bytes as laws
 use Rattle.optimiser.proofs.deliver.Goals as goal
