@@ -1,15 +1,17 @@
 -- The number at the room's end: times and plus, bytes before it, one less, every bit turned. Assumes nothing.
 use Prim.Native.Nat.{ℕ, zero, suc, ◌+◌, ◌-◌, ◌*◌, ◌/◌, ◌%◌, ◌^◌, ◌≤◌, ◌<◌}
 use mathlib.Core.Path.{◌≡◌, refl, sym, ◌∙◌, ap, ap₂}
-use mathlib.Core.List.{List, [], ◌∷◌}
+use mathlib.Core.List.{List, [], ◌∷◌, ◌++◌, append-nil}
 use native.Mathlib.Nat.{pow-succ', pow-le-pow_right, one-le-pow}
 use native.Mathlib.Omega.{arith}
 use borrow.Author.Tests.{eqb-true, eqb-false}
 use lib.Dec.{eqb}
 use lib.Arith.{digits_lt}
 use lib.Pow.{pow-add}
-use lib.ListN.{length, drop, get_or, set, length-set, length-drop}
-use lib.Seq.{drop-cons, drop-set-lt, get_or-set_same, get_or-set_other, get_or-drop}
+use borrow.Rule.Slice.PartMut.{put_mid}
+use Rattle.std.proofs.lemmas.List.{drop_at}
+use lib.ListN.{take, length-append, drop_of_length-le, length, drop, get_or, set, length-set, length-drop}
+use lib.Seq.{length-take-le, take_all, drop-cons, drop-set-lt, get_or-set_same, get_or-set_other}
 use Rattle.meaning.proofs.Tests.{on_bool}
 use Rattle.meaning.specs.Number.{number}
 use Rattle.notation.specs.Words.{turned_over}
@@ -275,10 +277,10 @@ past_none {s} {at} e h =
 
 -- ---- turn_over
 
--- the bytes from at to i are turned over, and those from i on are as they were
-pub record Turning (s₀ s : List ℕ) (at i : ℕ) : Type 0 where
+-- the first i bytes are turned over, and those from i on are as they were
+pub record Turning (s₀ s : List ℕ) (i : ℕ) : Type 0 where
   pub long : length s ≡ length s₀
-  pub done : (k : ℕ) → at ≤ k → k < i → get_or s k 0 ≡ 255 - get_or s₀ k 0
+  pub done : (k : ℕ) → k < i → get_or s k 0 ≡ 255 - get_or s₀ k 0
   pub rest : (k : ℕ) → i ≤ k → get_or s k 0 ≡ get_or s₀ k 0
 
 turned_each : (xs ys : List ℕ) → length xs ≡ length ys → ((k : ℕ) → k < length ys → get_or xs k 0 ≡ 255 - get_or ys k 0) → xs ≡ turned_over ys
@@ -293,13 +295,30 @@ set_back s i v h l =
     let k : i ≤ length (set s (i - 1) v) = rw (length-set s (i - 1) v) l in
     back_cons (set s (i - 1) v) i h k ∙ ap₂ ◌∷◌ (get_or-set_same s (i - 1) v 0 (omega arith)) (drop-set-lt i s (i - 1) v (omega arith))
 
-module _ {s₀ s : List ℕ} {at i : ℕ} (d : Turning s₀ s at i) where
-  pub turning_ends : length s₀ ≤ i → at ≤ length s₀ → Ends (turned_over (drop at s₀)) s₀ s at
-  turning_ends h l =
-      let g = d.long in
-      record {
-        long = g;
-        within = omega arith;
-        is = turned_each (drop at s) (drop at s₀) (length-drop at s ∙ ap (◌- at) g ∙ sym (length-drop at s₀))
-            (λ k m. get_or-drop at s k 0 ∙ d.done (at + k) (omega arith) (omega (arith, length-drop at s₀)) ∙ ap (255 -◌) (sym (get_or-drop at s₀ k 0)));
-      }
+pub turning_starts : (s : List ℕ) → Turning s s 0
+turning_starts s = record { long = refl; done = λ k l. absurd (omega arith); rest = λ k l. refl }
+
+pub turning_turn : {s₀ s : List ℕ} {i v : ℕ} → Turning s₀ s i → i < length s₀ → v ≡ 255 - get_or s i 0 → Turning s₀ (set s i v) (i + 1)
+turning_turn {s₀} {s} {i} {v} d h e = record {
+  long = length-set s i v ∙ d.long;
+  done = λ k l.
+      on_lt k i
+      (λ x. get_or-set_other s i k v 0 (λ z. omega arith) ∙ d.done k x)
+      (λ x. let z : k ≡ i = omega arith in let l = d.long in rw z (get_or-set_same s i v 0 (omega arith) ∙ e ∙ ap (255 -◌) (d.rest i (omega arith))));
+  rest = λ k l. get_or-set_other s i k v 0 (λ z. omega arith) ∙ d.rest k (omega arith);
+}
+
+pub turning_ends : {s ys : List ℕ} {at i : ℕ} → Turning (take (length s - at) (drop at s)) ys i → length (take (length s - at) (drop at s)) ≤ i → at ≤ length s → Ends (turned_over (drop at s)) s (put_mid at (length s - at) s ys) at
+turning_ends {s} {ys} {at} {i} d' h l =
+    let w : take (length s - at) (drop at s) ≡ drop at s = take_all (length s - at) (drop at s) (omega (arith, length-drop at s)) in
+    let d : Turning (drop at s) ys i = rw w at d' in
+    let g : length ys ≡ length s - at = d.long ∙ length-drop at s in
+    let n : drop (length s - at) (drop at s) ≡ [] = drop_of_length-le (drop at s) (omega (arith, length-drop at s)) in
+    let f : length (take at s) ≡ at = length-take-le at s l in
+    let m : length (take at s ++ ys) ≡ length s = length-append (take at s) ys ∙ omega arith in
+    rw (n, append-nil ys)
+    (record {
+      long = m;
+      within = omega arith;
+      is = drop_at (take at s) ys at f ∙ turned_each ys (drop at s) d.long (λ k o. d.done k (omega (arith, ap length w)));
+    })

@@ -144,8 +144,8 @@ fn turn_over(room: &mut [u8], at: usize)
     requires { at ≤ length room.old }
     ensures { Ends (turned_over (drop at room.old)) room.old room.new at }
 {
-    for i in at..room.len() {
-        room[i] = 255 - room[i];
+    for b in room[at..].iter_mut() {
+        *b = !*b;
     }
 }
 

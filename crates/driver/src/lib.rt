@@ -237,13 +237,10 @@ fn turn(
         Outcome::Stopped(_) => return s,
         Outcome::Same => {}
     }
-    let mut rule: usize = 1;
-    while rule < 9 {
+    for rule in 1..9usize {
         s = optimizer(form, room, row, p, s, n, nest, rule, notes);
         match s.w.last {
-            Outcome::Same => {
-                rule += 1;
-            }
+            Outcome::Same => {}
             Outcome::Changed(_) => {
                 run_state::note(row, notes, rule);
                 return s;

@@ -97,21 +97,10 @@ fn path_node<'a>(
     }
     let count = paths::turn_count(b);
     let mut q = env;
-    let mut i: usize = 0;
-    while i < count {
+    for i in 0..count {
         match store::look_node(room, q) {
-            Cell::Atom => {
-                return Err(Refusal::Fails);
-            }
-            Cell::Pair(l, r) => {
-                if paths::turn(b, i) {
-                    q = r;
-                    i += 1;
-                } else {
-                    q = l;
-                    i += 1;
-                }
-            }
+            Cell::Atom => return Err(Refusal::Fails),
+            Cell::Pair(l, r) => q = if paths::turn(b, i) { r } else { l },
         }
     }
     Ok(Valued { node: q, meter: m })

@@ -3,7 +3,8 @@
 
 ghost use Rattle.std.specs.Prelude.{◌≤◌};
 
-use form::{ReadAnswer, WriteAnswer};
+use form::Written;
+use refusals::Refusal;
 
 // What every lent byte holds before a call. No form here has it.
 const DIRT: u8 = 0xdd;
@@ -36,20 +37,20 @@ fn say_output(out: &[u8]) {
     say_ends(out);
 }
 
-fn say_read(a: ReadAnswer) {
+fn say_read(a: Result<usize, Refusal>) {
     match a {
-        ReadAnswer::Read(units) => say(b"read ok ", units),
-        ReadAnswer::Refused(e) => say(b"read no ", usize::from(refusals::number_of(e))),
+        Ok(units) => say(b"read ok ", units),
+        Err(e) => say(b"read no ", usize::from(refusals::number_of(e))),
     }
 }
 
-fn say_written(a: WriteAnswer) {
+fn say_written(a: Result<Written, Refusal>) {
     match a {
-        WriteAnswer::Written(n, units) => {
-            say(b"write ok ", n);
-            say(b" ", units);
+        Ok(w) => {
+            say(b"write ok ", w.length);
+            say(b" ", w.units);
         }
-        WriteAnswer::Refused(e) => say(b"write no ", usize::from(refusals::number_of(e))),
+        Err(e) => say(b"write no ", usize::from(refusals::number_of(e))),
     }
 }
 

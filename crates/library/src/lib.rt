@@ -73,9 +73,8 @@ pub extern "C" fn umlazgrin_match_place(
     ensures { Places (matcher.outcome forms.now first (length room.old) (length out.old)) room.old room.new out.old out.new report.old report.new place.old place.new result }
 {
     let m = umlazgrin::matches(forms, first, room, out);
-    let answer = m.answer;
     let stop = m.place;
-    match answer {
+    match m.answer {
         MatchAnswer::Refused(e) => refusals::number_of(e),
         MatchAnswer::NoMatch => {
             *place = stop;
@@ -174,18 +173,14 @@ fn to_numbers(s: Savings) -> [u64; 27]
 pub extern "C" fn umlazgrin_add_form(form: &[u8], room: &mut [u8], report: &mut [u64; 27]) -> u8
     ensures { Totals form.now room.old room.new report.old report.new result }
 {
-    let q = *report;
-    let s = from_numbers(q);
-    let a = umlazgrin::add_form(form, room, s);
-    let t = a.savings;
-    let c = a.column;
-    match c {
+    let a = umlazgrin::add_form(form, room, from_numbers(*report));
+    match a.column {
         Column::Answered => {
-            *report = to_numbers(t);
+            *report = to_numbers(a.savings);
             0
         }
         Column::Refused(e) => {
-            *report = to_numbers(t);
+            *report = to_numbers(a.savings);
             refusals::number_of(e)
         }
         Column::Full => refusals::number_of(Refusal::ReportFull),

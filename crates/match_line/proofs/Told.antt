@@ -6,6 +6,7 @@ use native.Mathlib.Omega.{arith}
 use lib.ListN.{length, take, drop, length-append, length-drop}
 use lib.Seq.{take_at, drop_at, take_all, length-take-le}
 use borrow.Author.Tests.{eq-eqb, ne_eqb}
+use Rattle.std.specs.Prelude.{Ok, Err}
 use Rattle.refusals.specs.declared.Refusal.{Refusal}
 use Rattle.refusals.specs.Numbers.{number_of}
 use Rattle.meaning.specs.Limits.{atom_limit, path_limit}
@@ -18,7 +19,7 @@ use Rattle.form.specs.Writes.{Wrote}
 use Rattle.form.proofs.Lend.{wrote_length}
 use Rattle.matcher.specs.declared.Parts.{Parts}
 use Rattle.matcher.specs.declared.Matching.{Matching}
-use Rattle.matcher.specs.declared.MatchAnswer.TheVariants.{Matched, NoMatch, TooManyNames, Refused}
+use Rattle.matcher.specs.declared.Verdict.TheVariants.{Matched, NoMatch, TooManyNames}
 use Rattle.matcher.specs.Outcome.{worked, parts, joined, end, outcome, says_at, says, Matches, Within}
 use Rattle.matcher.proofs.Whole.{Parted, match_parted, match_placed}
 use Rattle.lines.specs.Hex.{hex_of}
@@ -202,7 +203,7 @@ module _ (forms : List ℕ) (first-length : ℕ) (s s' w w' : List ℕ) (m : Mat
   abbrev line : List ℕ
   line = match_line forms first-length (length s) (length w)
 
-  pub matched_line : (e : Parts) (t u v : List ℕ) (at k r : ℕ) → Printed (10 ∷ []) u v k r → Printed (ok_in w' e) t u at k → m.answer ≡ Matched e → Printed line t v at r
+  pub matched_line : (e : Parts) (t u v : List ℕ) (at k r : ℕ) → Printed (10 ∷ []) u v k r → Printed (ok_in w' e) t u at k → m.answer ≡ Ok (Matched e) → Printed line t v at r
   unfolding says says_at match_line line_of bound_line out_after
   matched_line e t u v at k r q p i =
       let ends : List ℕ = e.count ∷ e.name_1 ∷ e.node_1 ∷ e.name_2 ∷ e.node_2 ∷ [] in
@@ -215,25 +216,25 @@ module _ (forms : List ℕ) (first-length : ℕ) (s s' w w' : List ℕ) (m : Mat
       let g : Printed (bound_line d.ks) t v at r = printing.joined (111 ∷ 107 ∷ bindings_text d.ks) (10 ∷ []) t u v at k r q f in
       rw (b.is, line_of, parted_bound forms first-length (length w) b.bytes ends d) g
 
-  failed : m.answer ≡ NoMatch → Answers o no_match m.place w w'
+  failed : m.answer ≡ Ok NoMatch → Answers o no_match m.place w w'
   unfolding says says_at
   failed i = told_answer o no_match m.place w w' (sym (ap (says_at m.place) i) ∙ h.settles.delivers.answer) h.settles.delivers.out
 
-  pub place_held : m.answer ≡ NoMatch → length (bytes_of (number m.place)) ≤ path_limit
+  pub place_held : m.answer ≡ Ok NoMatch → length (bytes_of (number m.place)) ≤ path_limit
   place_held i =
       let b : Answers o no_match m.place w w' = failed i in
       match_placed forms first-length (length w) b.bytes m.place (length s) b.is
 
-  pub not_line : (t t' : List ℕ) (at r : ℕ) → Printed (no_match_line m.place) t t' at r → m.answer ≡ NoMatch → Printed line t t' at r
+  pub not_line : (t t' : List ℕ) (at r : ℕ) → Printed (no_match_line m.place) t t' at r → m.answer ≡ Ok NoMatch → Printed line t t' at r
   unfolding match_line line_of
   not_line t t' at r p i = let b : Answers o no_match m.place w w' = failed i in rw (b.is, line_of) p
 
-  pub many_line : (t t' : List ℕ) (at r : ℕ) → Printed too_many_line t t' at r → m.answer ≡ TooManyNames → Printed line t t' at r
+  pub many_line : (t t' : List ℕ) (at r : ℕ) → Printed too_many_line t t' at r → m.answer ≡ Ok TooManyNames → Printed line t t' at r
   unfolding says says_at match_line line_of
   many_line t t' at r p i =
       let b : Answers o too_many_names [] w w' = told_answer o too_many_names [] w w' (sym (ap (says_at m.place) i) ∙ h.settles.delivers.answer) h.settles.delivers.out in rw (b.is, line_of) p
 
-  pub no_line : (n : Refusal) (k : ℕ) (t t' : List ℕ) (at r : ℕ) → Printed (no_number k) t t' at r → k ≡ number_of n → m.answer ≡ Refused n → Printed line t t' at r
+  pub no_line : (n : Refusal) (k : ℕ) (t t' : List ℕ) (at r : ℕ) → Printed (no_number k) t t' at r → k ≡ number_of n → m.answer ≡ Err n → Printed line t t' at r
   unfolding says says_at match_line line_of
   no_line n k t t' at r p e i =
       let b : o ≡ refused n = told_refusal o n (sym (ap (says_at m.place) i) ∙ h.settles.delivers.answer) in subst (λ (x : Outcome). Printed (line_of ks x) t t' at r) (sym b) (subst (λ (j : ℕ). Printed (no_number j) t t' at r) e p)

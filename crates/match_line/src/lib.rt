@@ -10,9 +10,10 @@ ghost use Rattle.lines.specs.Text.{Printed};
 ghost use Rattle.match_line.specs.Line.{no_match_at, no_match_line, match_line};
 ghost use Rattle.match_line.specs.Written.{NameFrom, both_in, ok_in};
 
-use matcher::{MatchAnswer, Parts};
+use matcher::{Parts, Verdict};
 
 // Where the bytes of a written name begin. It has at most 64 of them, so its prefix has at most two bytes.
+// tried: the proof did not close by slice patterns with ranges: they leave seven goals, most under names that may change.
 fn name_from(name: &[u8]) -> usize
     ensures { NameFrom name.now result }
 {
@@ -59,8 +60,7 @@ fn print_parts(out: &[u8], e: Parts, text: &mut [u8], at: usize) -> usize
     if e.count == 1 {
         return b;
     }
-    let end = e.node_2;
-    print_both(&out[mid..end], e.name_2 - mid, text, b)
+    print_both(&out[mid..e.node_2], e.name_2 - mid, text, b)
 }
 
 // Prints `no match` and a path's bytes as its atom's form, which is first written to atom, after text[..at].
@@ -96,15 +96,13 @@ pub fn print_matched(
     ensures { Printed (match_line forms.now first (length room.old) (length out.old)) text.old text.new at result }
 {
     let m = matcher::matches(forms, first, room, out);
-    let answer = m.answer;
-    let place = m.place;
-    match answer {
-        MatchAnswer::Matched(e) => {
+    match m.answer {
+        Ok(Verdict::Matched(e)) => {
             let k = print_parts(out, e, text, at);
             lines::print_word(text, k, b"\n")
         }
-        MatchAnswer::NoMatch => print_place(place, text, at),
-        MatchAnswer::TooManyNames => lines::print_word(text, at, b"too many names\n"),
-        MatchAnswer::Refused(r) => lines::print_no(text, at, refusals::number_of(r)),
+        Ok(Verdict::NoMatch) => print_place(m.place, text, at),
+        Ok(Verdict::TooManyNames) => lines::print_word(text, at, b"too many names\n"),
+        Err(e) => lines::print_no(text, at, refusals::number_of(e)),
     }
 }

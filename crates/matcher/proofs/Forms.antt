@@ -4,6 +4,7 @@ use mathlib.Core.List.{List, []}
 use Prim.Native.Nat.{ℕ}
 use lib.Dec.{leb}
 use lib.ListN.{length}
+use Rattle.std.specs.Prelude.{Result, Ok, Err}
 use Rattle.refusals.specs.declared.Refusal.{Refusal}
 use Rattle.meaning.specs.Meter.{Out, done, stop}
 use Rattle.meaning.specs.Form.{Reading}
@@ -17,7 +18,6 @@ use Rattle.store.specs.Nodes.{tree_at}
 use Rattle.store.specs.Store.{Ready}
 use Rattle.store.proofs.Ready as ready
 use Rattle.form.specs.declared.Two.{Two}
-use Rattle.form.specs.declared.Two.TheVariants.{Nodes, Refused as not_read}
 use Rattle.form.specs.Spans.{Stops, stops}
 use Rattle.form.specs.Both.{Both, read_both, TwoTo, TwoOk}
 use Rattle.form.proofs.Both.{late_both}
@@ -26,7 +26,7 @@ use Rattle.pattern.specs.declared.Match.{Match}
 use Rattle.pattern.specs.declared.Match.TheVariants.{Matched, NoMatch, TooManyNames}
 use Rattle.pattern.specs.Bound.{bindings_at, match_at, BoundIn as bound-found, MatchOk}
 use Rattle.matcher.specs.declared.Worked.{Worked}
-use Rattle.matcher.specs.declared.Said.TheVariants.{Bound, NoMatch as not-matched, TooManyNames as too_many, Stop}
+use Rattle.matcher.specs.declared.Said.TheVariants.{Bound, NoMatch as not-matched, TooManyNames as too_many}
 use Rattle.matcher.specs.Outcome.{worked, parts, joined, delivered, ending, place_of}
 use Rattle.matcher.specs.Steps.{outcome_of, BoundIn, Shows, delivering}
 
@@ -41,7 +41,7 @@ module _ (f s s₁ : List ℕ) (c : Charges) (p n : ℕ) (a : Match) (h : MatchO
   abbrev m : meaning.Match
   m = meaning.match_sexp (tree_at f s p) (tree_at f s n) []
 
-  pub shows_bound : (w : Worked) (ks : Bindings) → w ≡ record { said = Bound ks c; place = meaning.place_bytes 0 } → a ≡ Matched ks → Shows f s₁ (delivering m) w
+  pub shows_bound : (w : Worked) (ks : Bindings) → w ≡ record { said = Ok (Bound ks c); place = meaning.place_bytes 0 } → a ≡ Matched ks → Shows f s₁ (delivering m) w
   unfolding delivering match_at bound-found outcome_of BoundIn
   shows_bound w ks ew e =
       let z : meaning.matched (bindings_at f s₁ ks) ≡ m = is_matched m (bindings_at f s₁ ks) (rw e at h.answer) in
@@ -51,7 +51,7 @@ module _ (f s s₁ : List ℕ) (c : Charges) (p n : ℕ) (a : Match) (h : MatchO
         bound = rw e at h.bound;
       })
 
-  pub shows_many : (w : Worked) → w ≡ record { said = too_many; place = meaning.place_bytes 0 } → a ≡ TooManyNames → Shows f s₁ (delivering m) w
+  pub shows_many : (w : Worked) → w ≡ record { said = Ok too_many; place = meaning.place_bytes 0 } → a ≡ TooManyNames → Shows f s₁ (delivering m) w
   unfolding delivering match_at outcome_of BoundIn delivered place_of
   shows_many w ew e =
       let z : meaning.too_many_names ≡ m = is_third m (rw e at h.answer) in
@@ -69,7 +69,7 @@ module _ (f s s₁ : List ℕ) (c : Charges) (p n : ℕ) (a : Match) (h : MatchO
     fails_after e = let z : meaning.no ≡ meaning.verdict m = rw e at h.answer in rw same_after z
 
     pub shows_failed : (s₂ place : List ℕ) → place ≡ meaning.place_bytes (meaning.place (meaning.match_sexp (tree_at f s₁ p) (tree_at f s₁ n) [])) → a ≡ NoMatch
-        → Shows f s₂ (delivering m) (record { said = not-matched; place = place })
+        → Shows f s₂ (delivering m) (record { said = Ok not-matched; place = place })
     unfolding delivering match_at outcome_of BoundIn delivered place_of
     shows_failed s₂ place i e =
         let (ds, z) = is_failed m (rw e at h.answer) in
@@ -82,17 +82,26 @@ module _ (f s s₁ : List ℕ) (c : Charges) (p n : ℕ) (a : Match) (h : MatchO
 
 -- ---- work: two forms
 
-module _ (f s : List ℕ) (p e : List ℕ) (r : Two) (o : TwoOk f s (read_both p e) r) where
-  pub both_refused : (w : Worked) (n : Refusal) → w ≡ record { said = Stop n; place = meaning.place_bytes 0 } → r ≡ not_read n → Shows f s (ending p e) w
+module _ (f s : List ℕ) (p e : List ℕ) (r : Result Two Refusal) (o : TwoOk f s (read_both p e) r) where
+  pub both_refused : (w : Worked) (n : Refusal) → w ≡ record { said = Err n; place = meaning.place_bytes 0 } → r ≡ Err n → Shows f s (ending p e) w
   unfolding TwoOk outcome_of BoundIn ending worked ended place_of
   both_refused w n ew i = rw ew (go (rw i at o))
     where
-      go : Stops (read_both p e) n → Shows f s (ending p e) (record { said = Stop n; place = meaning.place_bytes 0 })
+      go : Stops (read_both p e) n → Shows f s (ending p e) (record { said = Err n; place = meaning.place_bytes 0 })
       go (stops x h) =
           let z : (k : ℕ) → ending p e k ≡ refused n = λ k. rw (h, worked) in
           record { is = z; place = λ k. sym (ap place_of (z k)); bound = tt }
 
-  module _ (a b : ℕ) (c : Charges) (i : r ≡ Nodes a b c) where
+  module _ (x : Two) (i : r ≡ Ok x) where
+    abbrev a : ℕ
+    a = x.first
+
+    abbrev b : ℕ
+    b = x.second
+
+    abbrev c : Charges
+    c = x.ch
+
     to : TwoTo f s c a b (read_both p e)
     unfolding TwoOk
     to = rw i at o

@@ -4,19 +4,21 @@ use mathlib.Core.List.{List}
 use Prim.Native.Nat.{ℕ}
 use native.Mathlib.Omega.{arith}
 use lib.ListN.{length}
+use Rattle.std.specs.Prelude.{Result, Ok, Err}
+use Rattle.refusals.specs.declared.Refusal.{Refusal}
 use Rattle.refusals.specs.Numbers.{number_of}
 use Rattle.refusals.proofs.Only.{number_only}
 use Rattle.matcher.specs.declared.Parts.{Parts}
-use Rattle.matcher.specs.declared.MatchAnswer.{MatchAnswer}
+use Rattle.matcher.specs.declared.Verdict.{Verdict}
 use Rattle.matcher.specs.declared.Matching.{Matching}
-use Rattle.matcher.specs.declared.MatchAnswer.TheVariants.{Matched, NoMatch, TooManyNames, Refused}
+use Rattle.matcher.specs.declared.Verdict.TheVariants.{Matched, NoMatch, TooManyNames}
 use Rattle.matcher.specs.Outcome.{says_at, says, outcome, Matches}
 
 same_parts : {n n' a a' b b' c c' d d' : ℕ} → n ≡ n' → a ≡ a' → b ≡ b' → c ≡ c' → d ≡ d'
     → ◌≡◌ {A = Parts} (record { count = n; name_1 = a; node_1 = b; name_2 = c; node_2 = d }) (record { count = n'; name_1 = a'; node_1 = b'; name_2 = c'; node_2 = d' })
 same_parts o p q r s = rw (o, p, q, r, s)
 
-parts_only : (p : List ℕ) (d e : Parts) → says_at p (Matched d) ≡ says_at p (Matched e) → d ≡ e
+parts_only : (p : List ℕ) (d e : Parts) → says_at p (Ok (Matched d)) ≡ says_at p (Ok (Matched e)) → d ≡ e
 unfolding says_at
 parts_only p d e h =
     let i : d.count ≡ e.count = cc in
@@ -26,24 +28,24 @@ parts_only p d e h =
     let m : d.node_2 ≡ e.node_2 = cc in
     same_parts i j k l m
 
-same : (p : List ℕ) (a b : MatchAnswer) → says_at p a ≡ says_at p b → a ≡ b
+same : (p : List ℕ) (a b : Result Verdict Refusal) → says_at p a ≡ says_at p b → a ≡ b
 unfolding says_at
-same p (Matched d) (Matched e) h = ap Matched (parts_only p d e h)
-same p (Matched d) NoMatch h = let z : ◌≡◌ {A = ℕ} 0 1 = cc in absurd (omega arith)
-same p (Matched d) TooManyNames h = let z : ◌≡◌ {A = ℕ} 0 1 = cc in absurd (omega arith)
-same p (Matched d) (Refused n) h = let z : ◌≡◌ {A = ℕ} 0 1 = cc in absurd (omega arith)
-same p NoMatch (Matched e) h = let z : ◌≡◌ {A = ℕ} 0 1 = cc in absurd (omega arith)
-same p NoMatch NoMatch h = refl
-same p NoMatch TooManyNames h = let z : ◌≡◌ {A = ℕ} 0 1 = cc in absurd (omega arith)
-same p NoMatch (Refused n) h = let z : ◌≡◌ {A = ℕ} 0 1 = cc in absurd (omega arith)
-same p TooManyNames (Matched e) h = let z : ◌≡◌ {A = ℕ} 0 1 = cc in absurd (omega arith)
-same p TooManyNames NoMatch h = let z : ◌≡◌ {A = ℕ} 0 1 = cc in absurd (omega arith)
-same p TooManyNames TooManyNames h = refl
-same p TooManyNames (Refused n) h = let z : ◌≡◌ {A = ℕ} 0 1 = cc in absurd (omega arith)
-same p (Refused m) (Matched e) h = let z : ◌≡◌ {A = ℕ} 0 1 = cc in absurd (omega arith)
-same p (Refused m) NoMatch h = let z : ◌≡◌ {A = ℕ} 0 1 = cc in absurd (omega arith)
-same p (Refused m) TooManyNames h = let z : ◌≡◌ {A = ℕ} 0 1 = cc in absurd (omega arith)
-same p (Refused m) (Refused n) h = let i : number_of m ≡ number_of n = cc in ap Refused (number_only m n i)
+same p (Ok (Matched d)) (Ok (Matched e)) h = ap (λ (x : Parts). Ok (Matched x)) (parts_only p d e h)
+same p (Ok (Matched d)) (Ok NoMatch) h = let z : ◌≡◌ {A = ℕ} 0 1 = cc in absurd (omega arith)
+same p (Ok (Matched d)) (Ok TooManyNames) h = let z : ◌≡◌ {A = ℕ} 0 1 = cc in absurd (omega arith)
+same p (Ok (Matched d)) (Err n) h = let z : ◌≡◌ {A = ℕ} 0 1 = cc in absurd (omega arith)
+same p (Ok NoMatch) (Ok (Matched e)) h = let z : ◌≡◌ {A = ℕ} 0 1 = cc in absurd (omega arith)
+same p (Ok NoMatch) (Ok NoMatch) h = refl
+same p (Ok NoMatch) (Ok TooManyNames) h = let z : ◌≡◌ {A = ℕ} 0 1 = cc in absurd (omega arith)
+same p (Ok NoMatch) (Err n) h = let z : ◌≡◌ {A = ℕ} 0 1 = cc in absurd (omega arith)
+same p (Ok TooManyNames) (Ok (Matched e)) h = let z : ◌≡◌ {A = ℕ} 0 1 = cc in absurd (omega arith)
+same p (Ok TooManyNames) (Ok NoMatch) h = let z : ◌≡◌ {A = ℕ} 0 1 = cc in absurd (omega arith)
+same p (Ok TooManyNames) (Ok TooManyNames) h = refl
+same p (Ok TooManyNames) (Err n) h = let z : ◌≡◌ {A = ℕ} 0 1 = cc in absurd (omega arith)
+same p (Err m) (Ok (Matched e)) h = let z : ◌≡◌ {A = ℕ} 0 1 = cc in absurd (omega arith)
+same p (Err m) (Ok NoMatch) h = let z : ◌≡◌ {A = ℕ} 0 1 = cc in absurd (omega arith)
+same p (Err m) (Ok TooManyNames) h = let z : ◌≡◌ {A = ℕ} 0 1 = cc in absurd (omega arith)
+same p (Err m) (Err n) h = let i : number_of m ≡ number_of n = cc in ap Err (number_only m n i)
 
 same_matching : (a b : Matching) → a.answer ≡ b.answer → a.place ≡ b.place → a ≡ b
 same_matching a b e f = rw (e, f)

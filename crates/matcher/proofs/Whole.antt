@@ -7,7 +7,8 @@ use native.Mathlib.Omega.{arith}
 use lib.ListN.{length, take, drop, length-append}
 use lib.Dec.{leb}
 use borrow.Author.Tests.{le-leb, leb-true}
-use Rattle.std.specs.Prelude.{Option, Some, None}
+use Rattle.std.specs.Prelude.{Option, Some, None, Result, Ok, Err}
+use Rattle.std.specs.Option.{ok_or}
 use Rattle.refusals.specs.declared.Refusal.{Refusal}
 use Rattle.refusals.specs.declared.Refusal.TheVariants.{RoomSmall, OutputShort}
 use Rattle.meaning.specs.Limits.{room_least, path_limit}
@@ -24,10 +25,10 @@ use Rattle.pattern.specs.Bound.{bindings_at, Bound}
 use Rattle.matcher.specs.declared.Parts.{Parts}
 use Rattle.matcher.specs.declared.Worked.{Worked}
 use Rattle.matcher.specs.declared.Said.{Said}
-use Rattle.matcher.specs.declared.Said.TheVariants.{Bound as bound-to, NoMatch as not-matched, TooManyNames as too_many, Stop}
-use Rattle.matcher.specs.declared.MatchAnswer.{MatchAnswer}
+use Rattle.matcher.specs.declared.Said.TheVariants.{Bound as bound-to, NoMatch as not-matched, TooManyNames as too_many}
+use Rattle.matcher.specs.declared.Verdict.{Verdict}
 use Rattle.matcher.specs.declared.Matching.{Matching}
-use Rattle.matcher.specs.declared.MatchAnswer.TheVariants.{Matched, NoMatch, TooManyNames, Refused}
+use Rattle.matcher.specs.declared.Verdict.TheVariants.{Matched, NoMatch, TooManyNames}
 use Rattle.matcher.specs.Outcome.{worked, parts, joined, end, delivered, ending, outcome, says_at, says, place_of, Matches, Within}
 use Rattle.matcher.specs.Steps.{outcome_of, BoundIn, Shows, placeless, Answers, placed}
 use Rattle.matcher.proofs.Forms.{worked_late}
@@ -36,11 +37,11 @@ use Rattle.matcher.proofs.PlaceLaws.{place_number, place_short}
 -- ---- deliver
 
 module _ (out : List ℕ) (ks : List meaning.Binding) (r : Option Parts) (e : r ≡ placed (length out) ks) where
-  pub parts_long : r ≡ None → Answers (placeless (delivered (length out) (meaning.matched ks))) out out (Refused OutputShort)
+  pub parts_long : (n : Refusal) → Err n ≡ ok_or r OutputShort → r ≡ None → Answers (placeless (delivered (length out) (meaning.matched ks))) out out (Err n)
   unfolding placeless placed delivered deliver says_at told out_after
-  parts_long d = record { at = λ p. go p (leb (length (joined (parts ks))) (length out)) refl (sym d ∙ e) }
+  parts_long n v d = let y : ◌≡◌ {A = Result Parts Refusal} (Err n) (Err OutputShort) = rw d at v in let j : n ≡ OutputShort = cc in rw j (record { at = λ p. go p (leb (length (joined (parts ks))) (length out)) refl (sym d ∙ e) })
     where
-      go : (p : List ℕ) (b : Bool) → leb (length (joined (parts ks))) (length out) ≡ b → ◌≡◌ {A = Option Parts} None (elim b [ true ↦ Some (record { count = length ks; name_1 = end 1 ks; node_1 = end 2 ks; name_2 = end 3 ks; node_2 = end 4 ks }) | false ↦ None ]) → Delivers (says_at p) (delivered (length out) (meaning.matched ks)) out out (Refused OutputShort)
+      go : (p : List ℕ) (b : Bool) → leb (length (joined (parts ks))) (length out) ≡ b → ◌≡◌ {A = Option Parts} None (elim b [ true ↦ Some (record { count = length ks; name_1 = end 1 ks; node_1 = end 2 ks; name_2 = end 3 ks; node_2 = end 4 ks }) | false ↦ None ]) → Delivers (says_at p) (delivered (length out) (meaning.matched ks)) out out (Err OutputShort)
       go p true h k = let z : ◌≡◌ {A = ℕ} 0 1 = cc in absurd (omega arith)
       go p false h k = rw (h, deliver) (record { answer = refl; out = refl })
 
@@ -57,7 +58,7 @@ module _ (out : List ℕ) (ks : List meaning.Binding) (r : Option Parts) (e : r 
     unfolding placed
     parts_are = sym d ∙ e ∙ rw (le-leb (length (joined (parts ks))) (length out) parts_fit, placed)
 
-    pub parts_written : (out₁ : List ℕ) (k : ℕ) → Wrote (joined (parts ks)) k out out₁ → Answers (placeless (delivered (length out) (meaning.matched ks))) out out₁ (Matched p)
+    pub parts_written : (out₁ : List ℕ) (k : ℕ) → Wrote (joined (parts ks)) k out out₁ → Answers (placeless (delivered (length out) (meaning.matched ks))) out out₁ (Ok (Matched p))
     unfolding placeless delivered deliver says_at told out_after
     parts_written out₁ k w =
         let z : p ≡ record { count = length ks; name_1 = end 1 ks; node_1 = end 2 ks; name_2 = end 3 ks; node_2 = end 4 ks } = let y = parts_are in cc in
@@ -65,26 +66,27 @@ module _ (out : List ℕ) (ks : List meaning.Binding) (r : Option Parts) (e : r 
 
 -- ---- answer
 
-module _ (f s : List ℕ) (n : ℕ) (r : Said) (out out₁ : List ℕ) where
-  pub bound_here : (ks : Bindings) (c : Charges) → BoundIn f s r → r ≡ bound-to ks c → Bound f s c ks
-  unfolding BoundIn
-  bound_here ks c h e = rw e at h
-
-  pub answer_bound : (ks : Bindings) (c : Charges) (a : MatchAnswer) → Answers (placeless (delivered n (meaning.matched (bindings_at f s ks)))) out out₁ a → r ≡ bound-to ks c → Answers (outcome_of f s n r) out out₁ a
-  unfolding placeless outcome_of
-  answer_bound ks c a d e = rw e (record { at = d.at })
-
-  pub answer_failed : r ≡ not-matched → Answers (outcome_of f s n r) out out NoMatch
-  unfolding outcome_of says_at told out_after
-  answer_failed e = rw e (record { at = λ p. record { answer = refl; out = refl } })
-
-  pub answer_many : r ≡ too_many → Answers (outcome_of f s n r) out out TooManyNames
-  unfolding outcome_of says_at told out_after
-  answer_many e = rw e (record { at = λ p. record { answer = refl; out = refl } })
-
-  pub answer_stop : (k : Refusal) → r ≡ Stop k → Answers (outcome_of f s n r) out out (Refused k)
+module _ (f s : List ℕ) (n : ℕ) (r : Result Said Refusal) (out out₁ : List ℕ) where
+  pub answer_stop : (k : Refusal) → r ≡ Err k → Answers (outcome_of f s n r) out out (Err k)
   unfolding outcome_of says_at told out_after
   answer_stop k e = rw e (record { at = λ p. record { answer = refl; out = refl } })
+
+  module _ (v : Said) (i : r ≡ Ok v) where
+    pub bound_here : (ks : Bindings) (c : Charges) → BoundIn f s r → v ≡ bound-to ks c → Bound f s c ks
+    unfolding BoundIn
+    bound_here ks c h e = rw (i, e) at h
+
+    pub answer_bound : (ks : Bindings) (c : Charges) (a : Result Verdict Refusal) → Answers (placeless (delivered n (meaning.matched (bindings_at f s ks)))) out out₁ a → v ≡ bound-to ks c → Answers (outcome_of f s n r) out out₁ a
+    unfolding placeless outcome_of
+    answer_bound ks c a d e = rw (i, e) (record { at = d.at })
+
+    pub answer_failed : v ≡ not-matched → Answers (outcome_of f s n r) out out (Ok NoMatch)
+    unfolding outcome_of says_at told out_after
+    answer_failed e = rw (i, e) (record { at = λ p. record { answer = refl; out = refl } })
+
+    pub answer_many : v ≡ too_many → Answers (outcome_of f s n r) out out (Ok TooManyNames)
+    unfolding outcome_of says_at told out_after
+    answer_many e = rw (i, e) (record { at = λ p. record { answer = refl; out = refl } })
 
 -- ---- matches
 
@@ -102,14 +104,14 @@ module _ (f : List ℕ) (first : ℕ) (s w : List ℕ) where
   unfolding ending
   zeros = zeros_ended (λ m x. delivered (length w) m) (λ m x. zeros_delivered (length w) m) (worked (take first f) (drop first f)) (worked_late (take first f) (drop first f))
 
-  pub matches_small : (p : List ℕ) → p ≡ meaning.place_bytes 0 → length s < room_least → Matches (outcome f first (length s) (length w)) s s w w (record { answer = Refused RoomSmall; place = p })
+  pub matches_small : (p : List ℕ) → p ≡ meaning.place_bytes 0 → length s < room_least → Matches (outcome f first (length s) (length w)) s s w w (record { answer = Err RoomSmall; place = p })
   unfolding outcome says says_at place_of
   matches_small p e h = record {
-    settles = small_settles says comes s w (record { answer = Refused RoomSmall; place = p }) refl h;
+    settles = small_settles says comes s w (record { answer = Err RoomSmall; place = p }) refl h;
     place = e ∙ sym (ap place_of (room_small (length s) comes h));
   }
 
-  module _ (h : room_least ≤ length s) (s₁ s₂ : List ℕ) (r : Worked) (a : MatchAnswer) (w₁ : List ℕ) where
+  module _ (h : room_least ≤ length s) (s₁ s₂ : List ℕ) (r : Worked) (a : Result Verdict Refusal) (w₁ : List ℕ) where
     pub matches_worked : s₂ ≡ zeroed s₁ → Answers (outcome_of f s₁ (length w) r.said) w w₁ a → Shows f s₁ (ending (take first f) (drop first f)) r → length s₁ ≡ length s
         → Matches (outcome f first (length s) (length w)) s s₂ w w₁ (record { answer = a; place = r.place })
     unfolding outcome says
@@ -195,7 +197,7 @@ module _ (f : List ℕ) (first limit : ℕ) (bytes ns : List ℕ) where
       go true k = placed_short (worked (take first f) (drop first f)) k
       go false k = let z : ◌≡◌ {A = ℕ} 0 1 = cc in absurd (omega arith)
 
-pub ends_within : (f : List ℕ) (first n : ℕ) (s s' w w' : List ℕ) (m : Matching) (e : Parts) → Matches (outcome f first n (length w)) s s' w w' m → m.answer ≡ Matched e → Within e (length w')
+pub ends_within : (f : List ℕ) (first n : ℕ) (s s' w w' : List ℕ) (m : Matching) (e : Parts) → Matches (outcome f first n (length w)) s s' w w' m → m.answer ≡ Ok (Matched e) → Within e (length w')
 unfolding says says_at end
 ends_within f first n s s' w w' m e k d =
     let h = k.settles in

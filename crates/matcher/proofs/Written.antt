@@ -15,8 +15,6 @@ use Rattle.meaning.specs.Match as meaning
 use Rattle.store.specs.declared.Charges.{Charges}
 use Rattle.store.specs.Nodes.{tree_at}
 use Rattle.store.proofs.Places.{whether}
-use Rattle.form.specs.declared.Extent.{Extent}
-use Rattle.form.specs.declared.Extent.TheVariants.{Long, Over as too_long}
 use Rattle.form.specs.Writes.{Writable, Wrote, extent}
 use Rattle.form.proofs.Bytes.{node_writable}
 use Rattle.form.proofs.Lend.{lent, back, then_wrote, lent_length, wrote_length}
@@ -30,26 +28,26 @@ use Rattle.matcher.specs.Steps.{ends, placed}
 
 -- ---- end_node
 
-extent_is : (limit n : ℕ) → n ≤ limit → Long n ≡ extent limit n
+extent_is : (limit n : ℕ) → n ≤ limit → Some n ≡ extent limit n
 unfolding extent
 extent_is limit n h = rw (le-leb n limit h, extent)
 
-extent_not : (limit n : ℕ) → limit < n → too_long ≡ extent limit n
+extent_not : (limit n : ℕ) → limit < n → None ≡ extent limit n
 unfolding extent
 extent_not limit n h = rw (lt-leb n limit h, extent)
 
-module _ (limit at n : ℕ) (h : at ≤ limit) (r : Extent) (e : r ≡ extent (limit - at) n) where
-  pub end_fits : (k : ℕ) → r ≡ Long k → Fits w64 limit → Fits w64 (at + k)
+module _ (limit at n : ℕ) (h : at ≤ limit) (r : Option ℕ) (e : r ≡ extent (limit - at) n) where
+  pub end_fits : (k : ℕ) → r ≡ Some k → Fits w64 limit → Fits w64 (at + k)
   end_fits k d g = let i = extent_long (limit - at) n k r e d in record { fits = omega (arith, i.same, i.fits, g.fits) }
 
-  pub end_long : (k : ℕ) → r ≡ Long k → Long (at + k) ≡ extent limit (at + n)
+  pub end_long : (k : ℕ) → r ≡ Some k → Some (at + k) ≡ extent limit (at + n)
   end_long k d =
       let i = extent_long (limit - at) n k r e d in
       let z : k ≡ n = i.same in
       let y : n ≤ limit - at = i.fits in
       rw z (extent_is limit (at + n) (omega arith))
 
-  pub end_over : r ≡ too_long → too_long ≡ extent limit (at + n)
+  pub end_over : r ≡ None → None ≡ extent limit (at + n)
   end_over d = let z : limit - at < n = extent_over (limit - at) n r e d in extent_not limit (at + n) (omega arith)
 
 -- ---- end_both
@@ -63,22 +61,22 @@ module _ (limit at a b : ℕ) where
   unfolding ends
   ends_not h = rw (lt-leb (at + a + b) limit h, ends)
 
-  module _ (r : Extent) (e : r ≡ extent limit (at + a)) where
-    pub first_over : r ≡ too_long → None ≡ ends limit at a b
+  module _ (r : Option ℕ) (e : r ≡ extent limit (at + a)) where
+    pub first_over : r ≡ None → None ≡ ends limit at a b
     first_over d = let z : limit < at + a = extent_over limit (at + a) r e d in ends_not (omega arith)
 
-    module _ (mid : ℕ) (d : r ≡ Long mid) where
+    module _ (mid : ℕ) (d : r ≡ Some mid) where
       mid_is : mid ≡ at + a
       mid_is = (extent_long limit (at + a) mid r e d).same
 
       pub mid_fits : mid ≤ limit
       mid_fits = let i = extent_long limit (at + a) mid r e d in omega (arith, i.same, i.fits)
 
-      module _ (q : Extent) (e₂ : q ≡ extent limit (mid + b)) where
-        pub second_over : q ≡ too_long → None ≡ ends limit at a b
+      module _ (q : Option ℕ) (e₂ : q ≡ extent limit (mid + b)) where
+        pub second_over : q ≡ None → None ≡ ends limit at a b
         second_over d₂ = let z : limit < mid + b = extent_over limit (mid + b) q e₂ d₂ in ends_not (omega (arith, mid_is))
 
-        pub both_end : (k : ℕ) → q ≡ Long k → Some (mid, k) ≡ ends limit at a b
+        pub both_end : (k : ℕ) → q ≡ Some k → Some (mid, k) ≡ ends limit at a b
         both_end k d₂ =
             let i = extent_long limit (mid + b) k q e₂ d₂ in
             let y : mid ≡ at + a = mid_is in

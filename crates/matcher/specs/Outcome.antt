@@ -1,5 +1,6 @@
 -- Matching on bytes alone: from the two forms' bytes, and the lengths of the lent room and output, to the outcome.
-use Rattle.std.specs.Prelude.{ℕ, ◌≤◌, ◌≡◌, List, [], ◌∷◌, ◌++◌, length, take, drop}
+use Rattle.std.specs.Prelude.{ℕ, ◌≤◌, ◌≡◌, List, [], ◌∷◌, ◌++◌, length, take, drop, Result, Ok, Err}
+use Rattle.refusals.specs.declared.Refusal.{Refusal}
 use Rattle.refusals.specs.Numbers.{number_of}
 use Rattle.meaning.specs.Tree.{atom}
 use Rattle.meaning.specs.Meter.{Out, done, stop}
@@ -8,9 +9,9 @@ use Rattle.meaning.specs.Match as meaning
 use Rattle.meaning.specs.Outcome.{Outcome, plain, no_match, too_many_names, answered, refused, deliver, ended, in_room, Told, values, number, Settles}
 use Rattle.form.specs.Both.{read_both}
 use Rattle.matcher.specs.declared.Parts.{Parts}
-use Rattle.matcher.specs.declared.MatchAnswer.{MatchAnswer}
+use Rattle.matcher.specs.declared.Verdict.{Verdict}
 use Rattle.matcher.specs.declared.Matching.{Matching}
-use Rattle.matcher.specs.declared.MatchAnswer.TheVariants.{Matched, NoMatch, TooManyNames, Refused}
+use Rattle.matcher.specs.declared.Verdict.TheVariants.{Matched, NoMatch, TooManyNames}
 
 -- both forms are read, on one budget; and then they are matched
 unfoldable pub worked : List ℕ → List ℕ → Out Reading meaning.Match
@@ -54,11 +55,11 @@ unfolding ending in_room
 outcome forms first room-length out-length = in_room room-length (ending (take first forms) (drop first forms) out-length)
 
 -- what an answer and the place beside it say: how many names and where each of the four parts ends; or that there is no match, and where
-unfoldable pub says_at : List ℕ → MatchAnswer → Told
-says_at place (Matched e) = values plain (e.count ∷ e.name_1 ∷ e.node_1 ∷ e.name_2 ∷ e.node_2 ∷ [])
-says_at place NoMatch = values no_match place
-says_at place TooManyNames = values too_many_names []
-says_at place (Refused n) = number (number_of n)
+unfoldable pub says_at : List ℕ → Result Verdict Refusal → Told
+says_at place (Ok (Matched e)) = values plain (e.count ∷ e.name_1 ∷ e.node_1 ∷ e.name_2 ∷ e.node_2 ∷ [])
+says_at place (Ok NoMatch) = values no_match place
+says_at place (Ok TooManyNames) = values too_many_names []
+says_at place (Err n) = number (number_of n)
 
 -- what `matches` says
 unfoldable pub says : Matching → Told

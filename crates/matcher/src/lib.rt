@@ -14,7 +14,7 @@ ghost use Rattle.pattern.specs.Bound.{bindings_at, Bound};
 ghost use Rattle.matcher.specs.Outcome.{parts, joined, delivered, ending, outcome, Matches};
 ghost use Rattle.matcher.specs.Steps.{outcome_of, BoundIn, Shows, delivering, placeless, Answers, ends, placed};
 
-use form::{Extent, Two};
+use form::Two;
 use pattern::{Bindings, Match};
 use refusals::Refusal;
 use store::{Charges, ROOM};
@@ -30,18 +30,17 @@ pub struct Parts {
 }
 
 #[derive(Clone, Copy)]
-pub enum MatchAnswer {
+pub enum Verdict {
     Matched(Parts),
     NoMatch,
     TooManyNames,
-    Refused(Refusal),
 }
 
 // The answer; and the place at which the expression first disagrees with the pattern, a path in 64 bytes, big-endian: zero where it
 // is deeper, and beside every other answer.
 #[derive(Clone, Copy)]
 pub struct Matching {
-    pub answer: MatchAnswer,
+    pub answer: Result<Verdict, Refusal>,
     pub place: [u8; 64],
 }
 
@@ -51,20 +50,19 @@ pub(crate) enum Said {
     Bound(Bindings, Charges),
     NoMatch,
     TooManyNames,
-    Stop(Refusal),
 }
 
 // And the place of a failure.
 #[derive(Clone, Copy)]
 pub(crate) struct Worked {
-    pub(crate) said: Said,
+    pub(crate) said: Result<Said, Refusal>,
     pub(crate) place: [u8; 64],
 }
 
 // ---- the two forms
 
 // What has no place.
-fn unplaced(said: Said) -> Worked
+fn unplaced(said: Result<Said, Refusal>) -> Worked
     ensures { result ≡ record { said = said; place = meaning.place_bytes 0 } }
 {
     Worked {
@@ -79,12 +77,12 @@ fn matched(forms: &[u8], room: &mut [u8], ch: Charges, p: usize, s: usize) -> Wo
     ensures { Shows forms.now room.new (delivering (meaning.match_sexp (tree_in forms.now room.old p) (tree_in forms.now room.old s) [])) result }
 {
     match pattern::matched_node(forms, room, ch, p, s) {
-        Match::Matched(ks) => unplaced(Said::Bound(ks, ch)),
+        Match::Matched(ks) => unplaced(Ok(Said::Bound(ks, ch))),
         Match::NoMatch => Worked {
-            said: Said::NoMatch,
+            said: Ok(Said::NoMatch),
             place: way::place_node(forms, room, ch, p, s),
         },
-        Match::TooManyNames => unplaced(Said::TooManyNames),
+        Match::TooManyNames => unplaced(Ok(Said::TooManyNames)),
     }
 }
 
@@ -94,22 +92,20 @@ fn work(forms: &[u8], room: &mut [u8], first: usize) -> Worked
     ensures { Shows forms.now room.new (ending (take first forms.now) (drop first forms.now)) result }
 {
     match form::read_two(forms, room, first) {
-        Two::Refused(e) => unplaced(Said::Stop(e)),
-        Two::Nodes(p, s, c) => matched(forms, room, c, p, s),
+        Err(e) => unplaced(Err(e)),
+        Ok(Two { first, second, ch }) => matched(forms, room, ch, first, second),
     }
 }
 
 // ---- the parts
 
 // Where the node's tree ends that is written from at on.
-fn end_node<'a>(forms: &'a [u8], room: &'a [u8], n: usize, at: usize, limit: usize) -> Extent
+fn end_node<'a>(forms: &'a [u8], room: &'a [u8], n: usize, at: usize, limit: usize) -> Option<usize>
     requires { Writable forms.now room.now n × (at ≤ limit) }
     ensures { result ≡ extent limit (at + length (write (tree_in forms.now room.now n))) }
 {
-    match form::length_node(forms, room, n, limit - at) {
-        Extent::Long(k) => Extent::Long(at + k),
-        Extent::Over => Extent::Over,
-    }
+    let k = form::length_node(forms, room, n, limit - at)?;
+    Some(at + k)
 }
 
 // Where two trees end that are written one after the other, where the limit allows them.
@@ -124,13 +120,9 @@ fn end_both<'a>(
     requires { Writable forms.now room.now name × Writable forms.now room.now node × (at ≤ limit) }
     ensures { result ≡ ends limit at (length (write (tree_in forms.now room.now name))) (length (write (tree_in forms.now room.now node))) }
 {
-    match end_node(forms, room, name, at, limit) {
-        Extent::Over => None,
-        Extent::Long(mid) => match end_node(forms, room, node, mid, limit) {
-            Extent::Over => None,
-            Extent::Long(end) => Some((mid, end)),
-        },
-    }
+    let mid = end_node(forms, room, name, at, limit)?;
+    let end = end_node(forms, room, node, mid, limit)?;
+    Some((mid, end))
 }
 
 // Where all parts end, where the limit allows them.
@@ -218,30 +210,30 @@ fn deliver<'a>(
     ch: Charges,
     ks: Bindings,
     out: &mut [u8],
-) -> MatchAnswer
+) -> Result<Verdict, Refusal>
     requires { Bound forms.now room.now ch ks }
     ensures { Answers (placeless (delivered (length out.old) (meaning.matched (bindings_at forms.now room.now ks)))) out.old out.new result }
 {
-    match place(forms, room, ch, ks, out.len()) {
-        None => MatchAnswer::Refused(Refusal::OutputShort),
-        Some(e) => {
-            write_parts(forms, room, ch, ks, out);
-            MatchAnswer::Matched(e)
-        }
-    }
+    let ends = place(forms, room, ch, ks, out.len()).ok_or(Refusal::OutputShort)?;
+    write_parts(forms, room, ch, ks, out);
+    Ok(Verdict::Matched(ends))
 }
 
 // ---- the whole
 
-fn answer<'a>(forms: &'a [u8], room: &'a [u8], said: Said, out: &mut [u8]) -> MatchAnswer
+fn answer<'a>(
+    forms: &'a [u8],
+    room: &'a [u8],
+    said: Result<Said, Refusal>,
+    out: &mut [u8],
+) -> Result<Verdict, Refusal>
     requires { BoundIn forms.now room.now said }
     ensures { Answers (outcome_of forms.now room.now (length out.old) said) out.old out.new result }
 {
-    match said {
+    match said? {
         Said::Bound(ks, c) => deliver(forms, room, c, ks, out),
-        Said::NoMatch => MatchAnswer::NoMatch,
-        Said::TooManyNames => MatchAnswer::TooManyNames,
-        Said::Stop(e) => MatchAnswer::Refused(e),
+        Said::NoMatch => Ok(Verdict::NoMatch),
+        Said::TooManyNames => Ok(Verdict::TooManyNames),
     }
 }
 
@@ -252,7 +244,7 @@ pub fn matches(forms: &[u8], first: usize, room: &mut [u8], out: &mut [u8]) -> M
 {
     if room.len() < ROOM {
         return Matching {
-            answer: MatchAnswer::Refused(Refusal::RoomSmall),
+            answer: Err(Refusal::RoomSmall),
             place: [0; 64],
         };
     }

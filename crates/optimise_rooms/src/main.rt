@@ -5,7 +5,8 @@
 
 ghost use Rattle.std.specs.Prelude.{◌≤◌};
 
-use optimiser::Answer;
+use optimiser::Report;
+use refusals::Refusal;
 
 // Standard output.
 const STDOUT_FILENO: i32 = 1;
@@ -37,13 +38,13 @@ fn count(s: &[u8]) -> usize {
     s.iter().filter(|x| **x != 0).count()
 }
 
-fn say_answer(a: Answer) {
+fn say_answer(a: Result<Report, Refusal>) {
     match a {
-        Answer::Refused(e) => {
+        Err(e) => {
             say(b"no ");
             say_number(usize::from(refusals::number_of(e)));
         }
-        Answer::Answered(r) => {
+        Ok(r) => {
             say(b"ok ");
             say_number(r.length);
             say(b" ");

@@ -1,4 +1,5 @@
 -- The line that is printed is the outcome's. Assumes nothing.
+use Rattle.std.specs.Prelude.{Result, Ok, Err}
 use mathlib.Core.Path.{◌≡◌, refl, sym, ◌∙◌, ap, subst}
 use mathlib.Core.Bool.{Bool, true, false}
 use mathlib.Core.List.{List, [], ◌∷◌}
@@ -13,14 +14,10 @@ use Rattle.meaning.specs.Outcome.{Outcome, plain, answered, Told, values, number
 use Rattle.meaning.specs.Run.{run, mark_number}
 use Rattle.meaning.proofs.Lent.{Answers, told_answer, told_refusal}
 use Rattle.optimiser.specs.declared.Report.{Report}
-use Rattle.optimiser.specs.declared.Answer.{Answer}
-use Rattle.optimiser.specs.declared.Answer.TheVariants.{Answered, Refused}
 use Rattle.optimiser.specs.Optimised.{says, Optimised}
-use Rattle.evaluation.specs.declared.EvalAnswer.{EvalAnswer}
-use Rattle.evaluation.specs.declared.EvalAnswer.TheVariants.{Value, Refused as no_value}
+use Rattle.evaluation.specs.declared.Evaluated.{Evaluated}
 use Rattle.evaluation.specs.Bytes as evaluation
-use Rattle.form.specs.declared.WriteAnswer.{WriteAnswer}
-use Rattle.form.specs.declared.WriteAnswer.TheVariants.{Written, Refused as not_written}
+use Rattle.form.specs.declared.Written.{Written}
 use Rattle.form.specs.Bytes as form
 use Rattle.lines.specs.Text.{Printed, ok_tree, numbers_line, no_number}
 use Rattle.lines.proofs.Printing.{joined}
@@ -73,8 +70,8 @@ unfolding mark_number
 mark_byte true = refl
 mark_byte false = refl
 
-module _ (f s w s' w' : List ℕ) (a : Answer) (h : Optimised f s w a s' w') where
-  module _ (p : Report) (e : a ≡ Answered p) where
+module _ (f s w s' w' : List ℕ) (a : Result Report Refusal) (h : Optimised f s w a s' w') where
+  module _ (p : Report) (e : a ≡ Ok p) where
     optimised : Stands (run f (length s) (length w)) w' p.length (p.passes ∷ p.units ∷ bool_byte p.mark ∷ [])
     unfolding says
     optimised = rw (mark_byte p.mark) (stands says (run f (length s) (length w)) s s' w w' a h (length w) _ _ (run_counted f (length s) (length w)) (ap says e))
@@ -88,14 +85,23 @@ module _ (f s w s' w' : List ℕ) (a : Answer) (h : Optimised f s w a s' w') whe
     pub optimised_line : (t t' : List ℕ) (at k : ℕ) → Printed (ok_line (take p.length w') (p.passes ∷ p.units ∷ bool_byte p.mark ∷ [])) t t' at k → Printed (line_of (run f (length s) (length w))) t t' at k
     optimised_line t t' at k z = rw (tree_line _ _ _ _ optimised) at z
 
-  pub optimised_no : (e : Refusal) (n : ℕ) (t t' : List ℕ) (at k : ℕ) → Printed (no_number n) t t' at k → n ≡ number_of e → a ≡ Refused e → Printed (line_of (run f (length s) (length w))) t t' at k
+  pub optimised_no : (e : Refusal) (n : ℕ) (t t' : List ℕ) (at k : ℕ) → Printed (no_number n) t t' at k → n ≡ number_of e → a ≡ Err e → Printed (line_of (run f (length s) (length w))) t t' at k
   unfolding says line_of
   optimised_no e n t t' at k z i j = refusal_told says _ s s' w w' a h e n t t' at k (ap says j) i z _
 
 -- ---- `evaluate`
 
-module _ (f : List ℕ) (first : ℕ) (s w s' w' : List ℕ) (a : EvalAnswer) (h : Settles evaluation.says (evaluation.outcome f first (length s) (length w)) s s' w w' a) where
-  module _ (n steps units : ℕ) (e : a ≡ Value n steps units) where
+module _ (f : List ℕ) (first : ℕ) (s w s' w' : List ℕ) (a : Result Evaluated Refusal) (h : Settles evaluation.says (evaluation.outcome f first (length s) (length w)) s s' w w' a) where
+  module _ (v : Evaluated) (e : a ≡ Ok v) where
+    abbrev n : ℕ
+    n = v.length
+
+    abbrev steps : ℕ
+    steps = v.steps
+
+    abbrev units : ℕ
+    units = v.units
+
     evaluated : Stands (evaluation.outcome f first (length s) (length w)) w' n (steps ∷ units ∷ [])
     unfolding evaluation.says
     evaluated = stands evaluation.says (evaluation.outcome f first (length s) (length w)) s s' w w' a h (length w) _ _ (evaluation_counted f first (length s) (length w)) (ap evaluation.says e)
@@ -109,27 +115,33 @@ module _ (f : List ℕ) (first : ℕ) (s w s' w' : List ℕ) (a : EvalAnswer) (h
     pub evaluated_line : (t t' : List ℕ) (at k : ℕ) → Printed (ok_line (take n w') (steps ∷ units ∷ [])) t t' at k → Printed (line_of (evaluation.outcome f first (length s) (length w))) t t' at k
     evaluated_line t t' at k z = rw (tree_line _ _ _ _ evaluated) at z
 
-  pub evaluated_no : (e : Refusal) (n : ℕ) (t t' : List ℕ) (at k : ℕ) → Printed (no_number n) t t' at k → n ≡ number_of e → a ≡ no_value e → Printed (line_of (evaluation.outcome f first (length s) (length w))) t t' at k
+  pub evaluated_no : (e : Refusal) (n : ℕ) (t t' : List ℕ) (at k : ℕ) → Printed (no_number n) t t' at k → n ≡ number_of e → a ≡ Err e → Printed (line_of (evaluation.outcome f first (length s) (length w))) t t' at k
   unfolding evaluation.says line_of
   evaluated_no e n t t' at k z i j = refusal_told evaluation.says _ s s' w w' a h e n t t' at k (ap evaluation.says j) i z _
 
 -- ---- `write`
 
-module _ (f s w s' w' : List ℕ) (a : WriteAnswer) (h : Settles form.write_says (form.write_outcome f (length s) (length w)) s s' w w' a) where
-  module _ (n units : ℕ) (e : a ≡ Written n units) where
-    written : Stands (form.write_outcome f (length s) (length w)) w' n (units ∷ [])
+module _ (f s w s' w' : List ℕ) (a : Result Written Refusal) (h : Settles form.write_says (form.write_outcome f (length s) (length w)) s s' w w' a) where
+  module _ (v : Written) (e : a ≡ Ok v) where
+    abbrev n₁ : ℕ
+    n₁ = v.length
+
+    abbrev units₁ : ℕ
+    units₁ = v.units
+
+    written : Stands (form.write_outcome f (length s) (length w)) w' n₁ (units₁ ∷ [])
     unfolding form.write_says
     written = stands form.write_says (form.write_outcome f (length s) (length w)) s s' w w' a h (length w) _ _ (write_counted f (length s) (length w)) (ap form.write_says e)
 
-    pub written_fits : n ≤ length w'
+    pub written_fits : n₁ ≤ length w'
     written_fits = written.within
 
-    pub written_count : n ≡ length (take n w')
+    pub written_count : n₁ ≡ length (take n₁ w')
     written_count = count _ _ _ _ written
 
-    pub written_line : (t t' : List ℕ) (at k : ℕ) → Printed (ok_line (take n w') (units ∷ [])) t t' at k → Printed (line_of (form.write_outcome f (length s) (length w))) t t' at k
+    pub written_line : (t t' : List ℕ) (at k : ℕ) → Printed (ok_line (take n₁ w') (units₁ ∷ [])) t t' at k → Printed (line_of (form.write_outcome f (length s) (length w))) t t' at k
     written_line t t' at k z = rw (tree_line _ _ _ _ written) at z
 
-  pub written_no : (e : Refusal) (n : ℕ) (t t' : List ℕ) (at k : ℕ) → Printed (no_number n) t t' at k → n ≡ number_of e → a ≡ not_written e → Printed (line_of (form.write_outcome f (length s) (length w))) t t' at k
+  pub written_no : (e : Refusal) (n : ℕ) (t t' : List ℕ) (at k : ℕ) → Printed (no_number n) t t' at k → n ≡ number_of e → a ≡ Err e → Printed (line_of (form.write_outcome f (length s) (length w))) t t' at k
   unfolding form.write_says line_of
   written_no e n t t' at k z i j = refusal_told form.write_says _ s s' w w' a h e n t t' at k (ap form.write_says j) i z _

@@ -8,10 +8,6 @@ ghost use Rattle.form.specs.Bytes.{write_outcome};
 ghost use Rattle.lines.specs.Text.{Printed};
 ghost use Rattle.outcome.specs.Line.{ok_line, line_of};
 
-use evaluation::EvalAnswer;
-use form::WriteAnswer;
-use optimiser::Answer;
-
 // Prints an answer after text[..at]: `ok`, the tree, and the numbers that are told behind its length.
 pub fn print_answer<'a>(tree: &'a [u8], numbers: &'a [usize], text: &mut [u8], at: usize) -> usize
     ensures { Printed (ok_line tree.now numbers.now) text.old text.new at result }
@@ -31,8 +27,8 @@ pub fn print_optimised(
     ensures { Printed (line_of (run form.now (length room.old) (length out.old))) text.old text.new at result }
 {
     match optimiser::optimise(form, room, out) {
-        Answer::Refused(e) => lines::print_no(text, at, refusals::number_of(e)),
-        Answer::Answered(r) => {
+        Err(e) => lines::print_no(text, at, refusals::number_of(e)),
+        Ok(r) => {
             let numbers = [r.passes, r.units, r.mark as usize];
             print_answer(&out[..r.length], &numbers, text, at)
         }
@@ -51,8 +47,8 @@ pub fn print_evaluated(
     ensures { Printed (line_of (outcome forms.now first (length room.old) (length out.old))) text.old text.new at result }
 {
     match evaluation::evaluate(forms, first, room, out) {
-        EvalAnswer::Refused(e) => lines::print_no(text, at, refusals::number_of(e)),
-        EvalAnswer::Value(n, steps, units) => print_answer(&out[..n], &[steps, units], text, at),
+        Err(e) => lines::print_no(text, at, refusals::number_of(e)),
+        Ok(v) => print_answer(&out[..v.length], &[v.steps, v.units], text, at),
     }
 }
 
@@ -67,7 +63,7 @@ pub fn print_written(
     ensures { Printed (line_of (write_outcome form.now (length room.old) (length out.old))) text.old text.new at result }
 {
     match form::write(form, room, out) {
-        WriteAnswer::Refused(e) => lines::print_no(text, at, refusals::number_of(e)),
-        WriteAnswer::Written(n, units) => print_answer(&out[..n], &[units], text, at),
+        Err(e) => lines::print_no(text, at, refusals::number_of(e)),
+        Ok(w) => print_answer(&out[..w.length], &[w.units], text, at),
     }
 }

@@ -3,7 +3,8 @@
 
 use refusals::Refusal;
 
-// Each refusal of 01 and of the requests for text and reports, with the words for it.
+// Each refusal of 01 and of the requests for text and reports, with the words for it. (Kept from being Display: nothing new may be assumed,
+// and println! reaches two C functions that io::write_all does not.)
 const LINES: [(Refusal, &[u8]); 17] = [
     (Refusal::RoomSmall, b"lent working room too small"),
     (Refusal::FormLong, b"form over 8,192 bytes"),

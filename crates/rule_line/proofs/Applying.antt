@@ -1,4 +1,5 @@
 -- One rule on a form: what each return needs. Assumes nothing.
+use Rattle.std.specs.Prelude.{Result, Ok, Err, Option, Some, None}
 use mathlib.Core.Path.{◌≡◌, sym, ◌∙◌, ap, ap₂, subst}
 use mathlib.Core.List.{List}
 use mathlib.Core.Bool.{false}
@@ -11,7 +12,6 @@ use Rattle.meaning.specs.Form.{read_form}
 use Rattle.meaning.proofs.SameLaws.{equal_to_same}
 use Rattle.store.specs.declared.Charges.{Charges}
 use Rattle.store.specs.declared.Made.{Made}
-use Rattle.store.specs.declared.Made.TheVariants.{Node as made, Refused as not_made}
 use Rattle.store.specs.Nodes.{tree_at}
 use Rattle.form.specs.Spans.{span, Stops, stops}
 use Rattle.form.specs.Reads.{ReadTo, FormOk}
@@ -40,18 +40,24 @@ module _ (out : ℕ) (t : Tree) where
 
 -- ---- the form is read, and its tree worked
 
-module _ (f s s₁ : List ℕ) (c : Charges) (p : Patterns) (h : Fresh f s c p) (m : Made) (o : FormOk f s s₁ (length f) 0 c m) where
+module _ (f s s₁ : List ℕ) (c : Charges) (p : Patterns) (h : Fresh f s c p) (m : Result Made Refusal) (o : FormOk f s s₁ (length f) 0 c m) where
   whole : read_form f 0 ≡ read_form (span f 0 (length f)) c.units
   whole = ap₂ read_form (sym (span_all f)) (sym h.units)
 
-  pub read_refused : (k : ℕ) (n : Refusal) → m ≡ not_made n → Applied k f s₁ (record { ch = c; passes = 0; mark = false; last = Stopped n })
+  pub read_refused : (k : ℕ) (n : Refusal) → m ≡ Err n → Applied k f s₁ (record { ch = c; passes = 0; mark = false; last = Stopped n })
   unfolding Applied Applies FormOk said
   read_refused k n e = go (same_stops whole (rw e at o))
     where
       go : Stops (read_form f 0) n → RefusedBy k f n
       go (stops r i) = record { is = λ out. rw (i, said) }
 
-  module _ (q : ℕ) (d : Charges) (e : m ≡ made q d) where
+  module _ (tree : Made) (e : m ≡ Ok tree) where
+    abbrev q : ℕ
+    q = tree.node
+
+    abbrev d : Charges
+    d = tree.ch
+
     to : ReadTo f s s₁ (length f) 0 c d (read_form (span f 0 (length f)) c.units) q (length f)
     unfolding FormOk
     to = rw e at o

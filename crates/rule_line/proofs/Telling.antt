@@ -1,4 +1,5 @@
 -- What was said is printed. Assumes nothing.
+use Rattle.std.specs.Prelude.{Result, Ok, Err, Option, Some, None}
 use mathlib.Core.Path.{◌≡◌, refl, sym, ◌∙◌, subst}
 use mathlib.Core.Bool.{Bool, true, false, ◌&&◌}
 use mathlib.Core.List.{List, [], ◌∷◌, ◌++◌}
@@ -20,8 +21,6 @@ use Rattle.meaning.proofs.Tests.{on_bool, and_inv}
 use Rattle.meaning.proofs.Yields.{either_way}
 use Rattle.store.specs.Nodes.{tree_at}
 use Rattle.store.proofs.Places.{whether}
-use Rattle.form.specs.declared.Extent.{Extent}
-use Rattle.form.specs.declared.Extent.TheVariants.{Long, Over}
 use Rattle.form.specs.Writes.{Writable, WroteAll, WroteNone, Delivered}
 use Rattle.run_state.specs.declared.Outcome.TheVariants.{Same, Changed, Stopped}
 use Rattle.run_state.specs.declared.Work.{Work}
@@ -60,18 +59,18 @@ refusal_line n = refl
 
 -- ---- a changed tree, where the output has room
 
-module _ (f s out out' : List ℕ) (m : ℕ) (w : Work) (e : Extent) (d : Delivered (write (tree_at f s m)) out out' e) where
+module _ (f s out out' : List ℕ) (m : ℕ) (w : Work) (e : Option ℕ) (d : Delivered (write (tree_at f s m)) out out' e) where
   abbrev bytes : List ℕ
   bytes = write (tree_at f s m)
 
-  pub tree_short : (n : ℕ) (t t' : List ℕ) (at r : ℕ) → Printed (no_number n) t t' at r → n ≡ number_of OutputShort → e ≡ Over
+  pub tree_short : (n : ℕ) (t t' : List ℕ) (at r : ℕ) → Printed (no_number n) t t' at r → n ≡ number_of OutputShort → e ≡ None
       → Printed (line_of (written (length out) (tree_at f s m) (spent_of w))) t t' at r
   unfolding written Delivered
   tree_short n t t' at r k j o =
       let x : WroteNone bytes out out' = rw o at d in
       rw (lt-leb (length bytes) (length out) x.over, written) (rw (j, refusal_line OutputShort) at k)
 
-  module _ (k : ℕ) (o : e ≡ Long k) where
+  module _ (k : ℕ) (o : e ≡ Some k) where
     all : WroteAll bytes k out out'
     unfolding Delivered
     all = rw o at d

@@ -12,11 +12,10 @@ ghost use Rattle.lines.specs.Text.{Printed};
 ghost use Rattle.rule_line.specs.Said.{same, changed, written, said, Applied};
 ghost use Rattle.rule_line.specs.Line.{line_of, rule_of, rule_line};
 
-use form::Extent;
 use patterns::Patterns;
 use refusals::Refusal;
 use run_state::{Outcome, Work};
-use store::{Charges, Made};
+use store::Charges;
 
 // ---- one rule on a form
 
@@ -26,13 +25,13 @@ fn read_and_apply(form: &[u8], room: &mut [u8], p: Patterns, ch: Charges, rule: 
     ensures { Applied rule form.now room.new result }
 {
     match form::read_form(form, room, 0, form.len(), ch) {
-        Made::Refused(e) => Work {
+        Ok(tree) => driver::apply_node(form, room, p, tree.ch, tree.node, rule),
+        Err(e) => Work {
             ch,
             passes: 0,
             mark: false,
             last: Outcome::Stopped(e),
         },
-        Made::Node(n, c) => driver::apply_node(form, room, p, c, n, rule),
     }
 }
 
@@ -77,8 +76,8 @@ fn print_changed(
     ensures { Printed (line_of (written (length out.old) (tree_in form.now room.now m) (spent_of w))) text.old text.new at result }
 {
     match form::deliver_node(form, room, m, out) {
-        Extent::Over => lines::print_no(text, at, refusals::number_of(Refusal::OutputShort)),
-        Extent::Long(k) => print_tree(&out[..k], w, text, at),
+        None => lines::print_no(text, at, refusals::number_of(Refusal::OutputShort)),
+        Some(k) => print_tree(&out[..k], w, text, at),
     }
 }
 

@@ -37,33 +37,23 @@ pub enum Program {
 // How the program's lines spell bytes.
 fn spelling(which: Program) -> Spelling {
     match which {
-        Program::Optimise => Spelling::Hex,
-        Program::Evaluate => Spelling::Hex,
-        Program::Match => Spelling::Hex,
-        Program::Rule => Spelling::Hex,
-        Program::Read => Spelling::Hex,
-        Program::ReadText => Spelling::Raw,
-        Program::WriteText => Spelling::Hex,
-        Program::OptimiseText => Spelling::Raw,
-        Program::EvaluateText => Spelling::Raw,
-        Program::TextFault => Spelling::Raw,
+        Program::Optimise
+        | Program::Evaluate
+        | Program::Match
+        | Program::Rule
+        | Program::Read
+        | Program::WriteText => Spelling::Hex,
+        Program::ReadText | Program::OptimiseText | Program::EvaluateText | Program::TextFault =>
+            Spelling::Raw,
     }
 }
 
 // Whether the program takes two lines for each answer.
 fn takes_two(which: Program) -> bool {
-    match which {
-        Program::Optimise => false,
-        Program::Evaluate => true,
-        Program::Match => true,
-        Program::Rule => true,
-        Program::Read => false,
-        Program::ReadText => false,
-        Program::WriteText => false,
-        Program::OptimiseText => false,
-        Program::EvaluateText => true,
-        Program::TextFault => false,
-    }
+    matches!(
+        which,
+        Program::Evaluate | Program::Match | Program::Rule | Program::EvaluateText
+    )
 }
 
 // The next line, or the next two where the program takes two.
@@ -79,9 +69,10 @@ fn next(
 {
     let how = spelling(which);
     if takes_two(which) {
-        return lines::next_two(input, how, buf, forms, text, s);
+        lines::next_two(input, how, buf, forms, text, s)
+    } else {
+        lines::next_line(input, how, buf, forms, text, s)
     }
-    lines::next_line(input, how, buf, forms, text, s)
 }
 
 // Prints the program's reply after text[..at]; forms[..first] are the first line's bytes.
@@ -128,8 +119,7 @@ fn turn(
     let mut r = next(input, which, buf, forms, text, s);
     let n = r.n;
     let at = lines::room_for_line(text, r.put);
-    let g = r.got;
-    match g {
+    match r.got {
         Got::Form => {
             r.put = answer(which, &forms[..n], r.first, room, out, text, at);
             r
@@ -158,10 +148,11 @@ fn turns(
     requires { Lent room.old out.old text.old }
 {
     let mut s = lines::start();
-    let mut left = u64::MAX;
-    while 0 < left {
+    for _ in 0..u64::MAX {
         s = turn(input, which, buf, forms, room, out, text, s);
-        left = lines::left(s, left);
+        if matches!(s.got, Got::End) {
+            return;
+        }
     }
 }
 

@@ -9,11 +9,6 @@ ghost use Rattle.texts.specs.Outcomes.{read_text_outcome, write_text_outcome, op
 ghost use Rattle.texts.specs.Faults.{fault_outcome};
 ghost use Rattle.text_line.specs.Line.{ok_text, text_and, text_line, bare_line, fault_line};
 
-use evaluation::EvalAnswer;
-use form::WriteAnswer;
-use optimiser::Answer;
-use texts::FaultAnswer;
-
 // Prints `ok` and an answer's text after text[..at].
 fn print_ok(answer: &[u8], text: &mut [u8], at: usize) -> usize
     ensures { Printed (ok_text answer.now) text.old text.new at result }
@@ -23,7 +18,7 @@ fn print_ok(answer: &[u8], text: &mut [u8], at: usize) -> usize
 }
 
 // The same, and the numbers that are told behind its length.
-fn print_answer<'a>(answer: &'a [u8], numbers: &'a [usize], text: &mut [u8], at: usize) -> usize
+fn print_answer(answer: &[u8], numbers: &[usize], text: &mut [u8], at: usize) -> usize
     ensures { Printed (text_and answer.now numbers.now) text.old text.new at result }
 {
     let a = print_ok(answer, text, at);
@@ -41,11 +36,8 @@ pub fn print_read(
     ensures { Printed (line_of (read_text_outcome source.now (length room.old) (length out.old))) text.old text.new at result }
 {
     match texts::read_text(source, room, out) {
-        WriteAnswer::Refused(e) => lines::print_no(text, at, refusals::number_of(e)),
-        WriteAnswer::Written(n, units) => {
-            let numbers = [units];
-            outcome::print_answer(&out[..n], &numbers, text, at)
-        }
+        Err(e) => lines::print_no(text, at, refusals::number_of(e)),
+        Ok(w) => outcome::print_answer(&out[..w.length], &[w.units], text, at),
     }
 }
 
@@ -60,9 +52,9 @@ pub fn print_written(
     ensures { Printed (bare_line (write_text_outcome form.now (length room.old) (length out.old))) text.old text.new at result }
 {
     match texts::write_text(form, room, out) {
-        WriteAnswer::Refused(e) => lines::print_no(text, at, refusals::number_of(e)),
-        WriteAnswer::Written(n, _) => {
-            let a = print_ok(&out[..n], text, at);
+        Err(e) => lines::print_no(text, at, refusals::number_of(e)),
+        Ok(w) => {
+            let a = print_ok(&out[..w.length], text, at);
             lines::print_word(text, a, b"\n")
         }
     }
@@ -79,11 +71,10 @@ pub fn print_optimised(
     ensures { Printed (text_line (optimise_text_outcome source.now (length room.old) (length out.old))) text.old text.new at result }
 {
     match texts::optimise_text(source, room, out) {
-        Answer::Refused(e) => lines::print_no(text, at, refusals::number_of(e)),
-        Answer::Answered(r) => {
-            let n = r.length;
+        Err(e) => lines::print_no(text, at, refusals::number_of(e)),
+        Ok(r) => {
             let numbers = [r.passes, r.units, r.mark as usize];
-            print_answer(&out[..n], &numbers, text, at)
+            print_answer(&out[..r.length], &numbers, text, at)
         }
     }
 }
@@ -100,11 +91,8 @@ pub fn print_evaluated(
     ensures { Printed (text_line (evaluate_text_outcome sources.now first (length room.old) (length out.old))) text.old text.new at result }
 {
     match texts::evaluate_text(sources, first, room, out) {
-        EvalAnswer::Refused(e) => lines::print_no(text, at, refusals::number_of(e)),
-        EvalAnswer::Value(n, steps, units) => {
-            let numbers = [steps, units];
-            print_answer(&out[..n], &numbers, text, at)
-        }
+        Err(e) => lines::print_no(text, at, refusals::number_of(e)),
+        Ok(v) => print_answer(&out[..v.length], &[v.steps, v.units], text, at),
     }
 }
 
@@ -113,12 +101,11 @@ pub fn print_fault(source: &[u8], room: &mut [u8], text: &mut [u8], at: usize) -
     ensures { Printed (fault_line (fault_outcome source.now (length room.old))) text.old text.new at result }
 {
     match texts::text_fault(source, room) {
-        FaultAnswer::Refused(e) => lines::print_no(text, at, refusals::number_of(e)),
-        FaultAnswer::NoFault => lines::print_word(text, at, b"no fault\n"),
-        FaultAnswer::At(p) => {
-            let numbers = [p];
+        Err(e) => lines::print_no(text, at, refusals::number_of(e)),
+        Ok(None) => lines::print_word(text, at, b"no fault\n"),
+        Ok(Some(p)) => {
             let a = lines::print_word(text, at, b"at");
-            lines::print_numbers(text, a, &numbers)
+            lines::print_numbers(text, a, &[p])
         }
     }
 }

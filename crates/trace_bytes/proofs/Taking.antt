@@ -1,4 +1,5 @@
 -- A trace taken apart: what each return needs. Assumes nothing.
+use Rattle.std.specs.Prelude.{Result, Ok, Err}
 use Prim.Native.Nat.{ℕ, suc, ◌+◌, ◌-◌, ◌*◌, ◌<◌, ◌≤◌}
 use mathlib.Core.Path.{◌≡◌, refl, sym, ◌∙◌, ap, ap₂}
 use mathlib.Core.List.{List, [], ◌∷◌}
@@ -17,7 +18,6 @@ use Rattle.meaning.specs.Tree.{same_bytes}
 use Rattle.meaning.specs.Limits.{trace_limit}
 use Rattle.meaning.specs.Trace.{trace_start, not_taken, entries_of, unless_cut, take_form, take_trace}
 use Rattle.meaning.proofs.Tests.{on_bool}
-use Rattle.trace_bytes.specs.declared.Taken.TheVariants.{Form, Refused}
 use Rattle.trace_bytes.specs.Bytes.{two_at, is_some, is_whole, TakenOk}
 use Rattle.trace_bytes.proofs.Entries.{entries_fuel}
 
@@ -80,12 +80,12 @@ form_long (x ∷ y ∷ gs) h l =
 -- ---- take_trace
 
 module _ (f : List ℕ) where
-  pub take_long : trace_limit < length f → TakenOk f (Refused TraceLong)
+  pub take_long : trace_limit < length f → TakenOk f (Err TraceLong)
   unfolding TakenOk take_trace
   take_long h = rw (lt-leb (length f) trace_limit h, take_trace)
 
   module _ (h : length f ≤ trace_limit) (b : Bool) (s : b ≡ same_bytes (take 5 f) trace_start) where
-    pub take_no : not b ≡ true → TakenOk f (Refused NotATrace)
+    pub take_no : not b ≡ true → TakenOk f (Err NotATrace)
     unfolding TakenOk take_trace
     take_no e = rw (le-leb (length f) trace_limit h, sym s ∙ not-true b e, take_trace)
 
@@ -95,7 +95,7 @@ module _ (f : List ℕ) where
       unfolding take_trace
       after = rw (le-leb (length f) trace_limit h, sym s ∙ not-false b e, take_trace)
 
-      pub take_cut : length f < 7 → TakenOk f (Refused TraceCut)
+      pub take_cut : length f < 7 → TakenOk f (Err TraceCut)
       unfolding TakenOk
       take_cut l = after ∙ form_cut (drop 5 f) (omega (arith, length-drop 5 f))
 
@@ -103,7 +103,7 @@ module _ (f : List ℕ) where
       unfolding two_at
       says = rw (get_or-drop 5 f 0 0, get_or-drop 5 f 1 0)
 
-      pub take_short : (n : ℕ) → n ≡ two_at f 5 → 7 ≤ length f → length f - 7 < n → TakenOk f (Refused TraceCut)
+      pub take_short : (n : ℕ) → n ≡ two_at f 5 → 7 ≤ length f → length f - 7 < n → TakenOk f (Err TraceCut)
       unfolding TakenOk
       take_short n i l k = after ∙ form_short (drop 5 f) (omega (arith, length-drop 5 f)) (omega (arith, length-drop 5 f, says))
 
@@ -120,11 +120,11 @@ module _ (f : List ℕ) where
         whole = after ∙ form_long (drop 5 f) (omega (arith, length-drop 5 f)) (omega (arith, length-drop 5 f, says)) ∙ rw (rest, front)
 
         module _ (w : Bool) (j : w ≡ is_whole (drop (7 + n) f)) where
-          pub take_left : w ≡ false → TakenOk f (Refused TraceCut)
+          pub take_left : w ≡ false → TakenOk f (Err TraceCut)
           unfolding TakenOk is_whole unless_cut
           take_left o = whole ∙ ap (unless_cut (take (7 + n - 7) (drop 7 f))) (some_none (entries_of (length (drop (7 + n) f)) (drop (7 + n) f)) (sym j ∙ o))
 
-          pub take_all : w ≡ true → TakenOk f (Form (7 + n))
+          pub take_all : w ≡ true → TakenOk f (Ok (7 + n))
           unfolding TakenOk is_whole unless_cut
           take_all o =
               let p = some_is (entries_of (length (drop (7 + n) f)) (drop (7 + n) f)) (sym j ∙ o) in

@@ -1,10 +1,10 @@
 -- What the functions on a trace's bytes promise.
+use Rattle.refusals.specs.declared.Refusal.{Refusal}
+use Rattle.std.specs.Prelude.{Result, Ok, Err}
 use Rattle.std.specs.Prelude.{ℕ, ◌+◌, ◌-◌, ◌*◌, ◌≤◌, ◌≡◌, List, ◌∷◌, ◌++◌, Bool, true, false, length, take, drop, get_or}
 use Rattle.std.proofs.Math.Option.{Option, none, some}
 use Rattle.meaning.specs.Limits.{trace_limit}
 use Rattle.meaning.specs.Trace.{four_bytes, taken, not_taken, entries_of, take_trace}
-use Rattle.trace_bytes.specs.declared.Taken.{Taken}
-use Rattle.trace_bytes.specs.declared.Taken.TheVariants.{Form, Refused}
 
 -- the number that the two bytes from at on say
 unfoldable pub two_at : List ℕ → ℕ → ℕ
@@ -28,9 +28,9 @@ pub record TakenTo (f : List ℕ) (stop : ℕ) : Type 0 where
   pub these : entries_of (length (drop stop f)) (drop stop f) ≡ some entries
   pub is : take_trace f ≡ taken (take (stop - 7) (drop 7 f)) entries
 
-unfoldable pub TakenOk : List ℕ → Taken → Type 0
-TakenOk f (Form stop) = TakenTo f stop
-TakenOk f (Refused n) = take_trace f ≡ not_taken n
+unfoldable pub TakenOk : List ℕ → Result ℕ Refusal → Type 0
+TakenOk f (Ok stop) = TakenTo f stop
+TakenOk f (Err n) = take_trace f ≡ not_taken n
 
 -- these bytes stand in the output from at on; the rest is as it was
 unfoldable pub put_at : List ℕ → ℕ → List ℕ → List ℕ

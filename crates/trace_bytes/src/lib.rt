@@ -8,13 +8,6 @@ ghost use Rattle.trace_bytes.specs.Bytes.{two_at, is_whole, TakenOk, put_at, cou
 
 use refusals::Refusal;
 
-// Where the form of a trace ends; or a refusal.
-#[derive(Clone, Copy)]
-pub enum Taken {
-    Form(usize),
-    Refused(Refusal),
-}
-
 // Bytes of a trace, at most.
 const TRACE: usize = 65536;
 
@@ -61,27 +54,27 @@ fn whole_from(trace: &[u8], from: usize) -> bool
     false
 }
 
-// Takes a trace apart: its form is trace[7..], up to the answer's place, and its entries follow.
-pub fn take_trace(trace: &[u8]) -> Taken
+// Takes a trace apart: its form is trace[7..stop], where stop is the answer, and its entries follow.
+pub fn take_trace(trace: &[u8]) -> Result<usize, Refusal>
     ensures { TakenOk trace.now result }
 {
     if TRACE < trace.len() {
-        return Taken::Refused(Refusal::TraceLong);
+        return Err(Refusal::TraceLong);
     }
     if !starts(trace) {
-        return Taken::Refused(Refusal::NotATrace);
+        return Err(Refusal::NotATrace);
     }
     if trace.len() < 7 {
-        return Taken::Refused(Refusal::TraceCut);
+        return Err(Refusal::TraceCut);
     }
     let n = two_at(trace, 5);
     if trace.len() - 7 < n {
-        return Taken::Refused(Refusal::TraceCut);
+        return Err(Refusal::TraceCut);
     }
     if whole_from(trace, 7 + n) {
-        Taken::Form(7 + n)
+        Ok(7 + n)
     } else {
-        Taken::Refused(Refusal::TraceCut)
+        Err(Refusal::TraceCut)
     }
 }
 

@@ -49,6 +49,3 @@ decreases-operands-elements l = l.q
 
 abbrev pub invariant-turn-loop-rule : goal.invariant-turn-loop-rule
 invariant-turn-loop-rule l = turning.Turning l.form l.p l.nest l.initial.room l.initial.s.w l.n l.room l.s.w l.rule × Valid l.form l.room l.row l.s × (length l.row ≡ length l.initial.row) × Sofar l.notes l.initial.row l.row (pass_ends (height_at (l.nest + 1)) 1 (tree_at l.form l.initial.room l.n) (spent_of l.initial.s.w)) (pass_ends (height_at (l.nest + 1)) l.rule (tree_at l.form l.initial.room l.n) (spent_of l.s.w))
-
-abbrev pub decreases-turn-loop-rule : goal.decreases-turn-loop-rule
-decreases-turn-loop-rule l = 9 - l.rule

@@ -2,6 +2,7 @@
 use Rattle.evaluator.proofs.Walk as walk
 use Rattle.store.proofs.Ready.{room}
 use Rattle.evaluator.proofs.path_node.Goals as goal
+use Rattle.evaluator.proofs.path_node.Goals.{then-turn, else-turn}
 
 pub atom_bytes-b-requires : goal.atom_bytes-b-requires
 atom_bytes-b-requires c = search room
@@ -21,11 +22,8 @@ look_node-requires c = search walk.walk_room
 pub returns-in-Atom : goal.returns-in-Atom
 returns-in-Atom c = search walk.walk_fails
 
-pub loop-i-preserved-then-turn : goal.loop-i-preserved-then-turn
-loop-i-preserved-then-turn c = search walk.walk_right
-
 pub loop-i-preserved : goal.loop-i-preserved
-loop-i-preserved c = search walk.walk_left
+loop-i-preserved c = elim c.if-turn.branch [ then-turn w ↦ rw w.q-is (search (walk.walk_right, w.if-turn.true)) | else-turn w ↦ rw w.q-is (search (walk.walk_left, w.if-turn.false)) ]
 
 pub returns : goal.returns
 returns c = search walk.walk_ends

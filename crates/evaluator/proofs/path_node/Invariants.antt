@@ -5,6 +5,3 @@ use Rattle.evaluator.proofs.path_node.Given as goal
 
 abbrev pub invariant-loop-i : goal.invariant-loop-i
 invariant-loop-i l = walk.Walking l.form l.room l.b l.m l.env l.q l.i
-
-abbrev pub decreases-loop-i : goal.decreases-loop-i
-decreases-loop-i l = l.count - l.i

@@ -3,10 +3,10 @@ use Rattle.matcher.proofs.Written as laws
 use Rattle.matcher.proofs.end_node.Goals as goal
 
 pub overflow_add-result : goal.overflow_add-result
-overflow_add-result c = search laws.end_fits
+overflow_add-result c = search (laws.end_fits, c.in_ok-k.was)
 
-pub returns-in-Long : goal.returns-in-Long
-returns-in-Long c = search laws.end_long
+pub returns-in_err-k : goal.returns-in_err-k
+returns-in_err-k c = rw c.from_residual.ensures (search (laws.end_over, c.in_err-k.was))
 
-pub returns-in-Over : goal.returns-in-Over
-returns-in-Over c = search laws.end_over
+pub returns : goal.returns
+returns c = search (laws.end_long, c.in_ok-k.was)

@@ -5,8 +5,8 @@ use Rattle.matcher.proofs.work.Goals as goal
 pub matched-requires : goal.matched-requires
 matched-requires c = (search laws.pattern_ready, search laws.expression_ready)
 
-pub returns-in-Refused : goal.returns-in-Refused
-returns-in-Refused c = search laws.both_refused
+pub returns-in-Err : goal.returns-in-Err
+returns-in-Err c = search laws.both_refused
 
-pub returns-in-Nodes : goal.returns-in-Nodes
-returns-in-Nodes c = search laws.both_matched
+pub returns-in-Ok : goal.returns-in-Ok
+returns-in-Ok c = search laws.both_matched

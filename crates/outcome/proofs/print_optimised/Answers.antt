@@ -5,11 +5,11 @@ use Rattle.outcome.proofs.print_optimised.Goals as goal
 pub slice_bounds-print_answer-end : goal.slice_bounds-print_answer-end
 slice_bounds-print_answer-end c = search laws.optimised_fits
 
-pub slice_bounds-print_answer-end-in-Answered : goal.slice_bounds-print_answer-end-in-Answered
-slice_bounds-print_answer-end-in-Answered c = search laws.optimised_count
+pub slice_bounds-print_answer-end-in-Ok : goal.slice_bounds-print_answer-end-in-Ok
+slice_bounds-print_answer-end-in-Ok c = search laws.optimised_count
 
-pub returns-in-Refused : goal.returns-in-Refused
-returns-in-Refused c = search laws.optimised_no
+pub returns-in-Err : goal.returns-in-Err
+returns-in-Err c = search laws.optimised_no
 
-pub returns-in-Answered : goal.returns-in-Answered
-returns-in-Answered c = search laws.optimised_line
+pub returns-in-Ok : goal.returns-in-Ok
+returns-in-Ok c = search laws.optimised_line

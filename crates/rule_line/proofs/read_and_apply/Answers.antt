@@ -7,8 +7,8 @@ use Rattle.rule_line.proofs.read_and_apply.Goals as goal
 pub apply_node-requires : goal.apply_node-requires
 apply_node-requires c = (search working.read_ready, search working.read_patterned, search rules, search rules)
 
-pub returns-in-Refused : goal.returns-in-Refused
-returns-in-Refused c = search applying.read_refused
+pub returns-in-Err : goal.returns-in-Err
+returns-in-Err c = search applying.read_refused
 
-pub returns-in-Node : goal.returns-in-Node
-returns-in-Node c = search applying.read_applied
+pub returns-in-Ok : goal.returns-in-Ok
+returns-in-Ok c = search applying.read_applied

@@ -5,11 +5,11 @@ use Rattle.text_line.proofs.print_read.Goals as goal
 pub slice_bounds-print_answer-end : goal.slice_bounds-print_answer-end
 slice_bounds-print_answer-end c = search laws.read_fits
 
-pub slice_bounds-print_answer-end-in-Written : goal.slice_bounds-print_answer-end-in-Written
-slice_bounds-print_answer-end-in-Written c = search laws.read_count
+pub slice_bounds-print_answer-end-in-Ok : goal.slice_bounds-print_answer-end-in-Ok
+slice_bounds-print_answer-end-in-Ok c = search laws.read_count
 
-pub returns-in-Refused : goal.returns-in-Refused
-returns-in-Refused c = search laws.read_no
+pub returns-in-Err : goal.returns-in-Err
+returns-in-Err c = search laws.read_no
 
-pub returns-in-Written : goal.returns-in-Written
-returns-in-Written c = search laws.read_line
+pub returns-in-Ok : goal.returns-in-Ok
+returns-in-Ok c = search laws.read_line
