@@ -1,4 +1,7 @@
 -- From what a public function promises of its answer to what the library's function of the same work returns and reports. Assumes nothing.
+use Rattle.std.specs.Prelude.{Result, Ok, Err, Option, Some, None}
+use Rattle.matcher.specs.declared.Verdict.{Verdict}
+use Rattle.matcher.specs.declared.Verdict.TheVariants.{Matched, NoMatch, TooManyNames}
 use mathlib.Core.Path.{◌≡◌, refl, sym, ◌∙◌, ap}
 use mathlib.Core.List.{List, [], ◌∷◌}
 use Prim.Native.Nat.{ℕ}
@@ -6,24 +9,15 @@ use mir.Val.{bool_byte}
 use Rattle.refusals.specs.declared.Refusal.{Refusal}
 use Rattle.refusals.specs.Numbers.{number_of}
 use Rattle.meaning.specs.Outcome.{Outcome, plain, no_match, too_many_names, Told, values, number, told, Settles}
-use Rattle.form.specs.declared.ReadAnswer.{ReadAnswer}
-use Rattle.form.specs.declared.ReadAnswer.TheVariants.{Read, Refused as not_read}
-use Rattle.form.specs.declared.WriteAnswer.{WriteAnswer}
-use Rattle.form.specs.declared.WriteAnswer.TheVariants.{Written, Refused as not_written}
+use Rattle.form.specs.declared.Written.{Written}
 use Rattle.form.specs.Bytes.{read_says, write_says}
-use Rattle.evaluation.specs.declared.EvalAnswer.{EvalAnswer}
-use Rattle.evaluation.specs.declared.EvalAnswer.TheVariants.{Value, Refused as not-evaluated}
+use Rattle.evaluation.specs.declared.Evaluated.{Evaluated}
 use Rattle.evaluation.specs.Bytes as evaluation
 use Rattle.matcher.specs.declared.Parts.{Parts}
 use Rattle.matcher.specs.declared.Matching.{Matching}
-use Rattle.matcher.specs.declared.MatchAnswer.TheVariants.{Matched, NoMatch, TooManyNames, Refused as not-matched}
 use Rattle.matcher.specs.Outcome as matcher
 use Rattle.optimiser.specs.declared.Report.{Report}
-use Rattle.optimiser.specs.declared.Answer.{Answer}
-use Rattle.optimiser.specs.declared.Answer.TheVariants.{Answered, Refused}
 use Rattle.optimiser.specs.Optimised as optimiser
-use Rattle.texts.specs.declared.FaultAnswer.{FaultAnswer}
-use Rattle.texts.specs.declared.FaultAnswer.TheVariants.{At, NoFault, Refused as no-fault-told}
 use Rattle.texts.specs.Faults.{fault_says}
 use Rattle.totals.proofs.Adding.{mark_byte}
 use Rattle.library.specs.Reports.{number_told, report_told, place_told, Reports, Places}
@@ -40,25 +34,25 @@ module _ {A : Type 0} (tells : A → Told) (o : Outcome) (s s₁ w w₁ q : List
 
 -- ---- optimise, from a form or a text
 
-module _ (o : Outcome) (s s₁ w w₁ q : List ℕ) (a : Answer) (h : Settles optimiser.says o s s₁ w w₁ a) where
-  pub optimise_refused : (e : Refusal) (n : ℕ) → a ≡ Refused e → n ≡ number_of e → Reports o s s₁ w w₁ q q n
+module _ (o : Outcome) (s s₁ w w₁ q : List ℕ) (a : Result Report Refusal) (h : Settles optimiser.says o s s₁ w w₁ a) where
+  pub optimise_refused : (e : Refusal) (n : ℕ) → a ≡ Err e → n ≡ number_of e → Reports o s s₁ w w₁ q q n
   unfolding optimiser.says number_told report_told
-  optimise_refused e n i j = reported optimiser.says o s s₁ w w₁ q a (Refused e) h i q n j refl
+  optimise_refused e n i j = reported optimiser.says o s s₁ w w₁ q a (Err e) h i q n j refl
 
-  pub optimise_done : (r : Report) → a ≡ Answered r → Reports o s s₁ w w₁ q (r.length ∷ r.passes ∷ r.units ∷ bool_byte r.mark ∷ []) 0
+  pub optimise_done : (r : Report) → a ≡ Ok r → Reports o s s₁ w w₁ q (r.length ∷ r.passes ∷ r.units ∷ bool_byte r.mark ∷ []) 0
   unfolding optimiser.says number_told report_told
-  optimise_done r i = reported optimiser.says o s s₁ w w₁ q a (Answered r) h i _ 0 refl (ap (λ (m : ℕ). r.length ∷ r.passes ∷ r.units ∷ m ∷ []) (mark_byte r.mark))
+  optimise_done r i = reported optimiser.says o s s₁ w w₁ q a (Ok r) h i _ 0 refl (ap (λ (m : ℕ). r.length ∷ r.passes ∷ r.units ∷ m ∷ []) (mark_byte r.mark))
 
 -- ---- evaluate, from forms or texts
 
-module _ (o : Outcome) (s s₁ w w₁ q : List ℕ) (a : EvalAnswer) (h : Settles evaluation.says o s s₁ w w₁ a) where
-  pub evaluate_refused : (e : Refusal) (n : ℕ) → a ≡ not-evaluated e → n ≡ number_of e → Reports o s s₁ w w₁ q q n
+module _ (o : Outcome) (s s₁ w w₁ q : List ℕ) (a : Result Evaluated Refusal) (h : Settles evaluation.says o s s₁ w w₁ a) where
+  pub evaluate_refused : (e : Refusal) (n : ℕ) → a ≡ Err e → n ≡ number_of e → Reports o s s₁ w w₁ q q n
   unfolding evaluation.says number_told report_told
-  evaluate_refused e n i j = reported evaluation.says o s s₁ w w₁ q a (not-evaluated e) h i q n j refl
+  evaluate_refused e n i j = reported evaluation.says o s s₁ w w₁ q a (Err e) h i q n j refl
 
-  pub evaluate_done : (count steps units : ℕ) → a ≡ Value count steps units → Reports o s s₁ w w₁ q (count ∷ steps ∷ units ∷ []) 0
+  pub evaluate_done : (v : Evaluated) → a ≡ Ok v → Reports o s s₁ w w₁ q (v.length ∷ v.steps ∷ v.units ∷ []) 0
   unfolding evaluation.says number_told report_told
-  evaluate_done count steps units i = reported evaluation.says o s s₁ w w₁ q a (Value count steps units) h i _ 0 refl refl
+  evaluate_done v i = reported evaluation.says o s s₁ w w₁ q a (Ok v) h i _ 0 refl refl
 
 -- ---- match
 
@@ -74,58 +68,58 @@ module _ (o : Outcome) (s s₁ w w₁ q p : List ℕ) (m : Matching) (h : matche
     place = l ∙ ap (λ (x : Told). place_told x p) e;
   }
 
-  pub match_refused : (e : Refusal) (n : ℕ) → m.answer ≡ not-matched e → n ≡ number_of e → Places o s s₁ w w₁ q q p p n
+  pub match_refused : (e : Refusal) (n : ℕ) → m.answer ≡ Err e → n ≡ number_of e → Places o s s₁ w w₁ q q p p n
   unfolding matcher.says matcher.says_at number_told report_told place_told
   match_refused e n i j = placed (number (number_of e)) q p n (ap (matcher.says_at m.place) i) j refl refl
 
-  pub match_none : m.answer ≡ NoMatch → Places o s s₁ w w₁ q q p m.place 100
+  pub match_none : (v : Verdict) → m.answer ≡ Ok v → v ≡ NoMatch → Places o s s₁ w w₁ q q p m.place 100
   unfolding matcher.says matcher.says_at number_told report_told place_told
-  match_none i = placed (values no_match m.place) q m.place 100 (ap (matcher.says_at m.place) i) refl refl refl
+  match_none v i e = placed (values no_match m.place) q m.place 100 (ap (matcher.says_at m.place) (i ∙ ap Ok e)) refl refl refl
 
-  pub match_many : m.answer ≡ TooManyNames → Places o s s₁ w w₁ q q p p 101
+  pub match_many : (v : Verdict) → m.answer ≡ Ok v → v ≡ TooManyNames → Places o s s₁ w w₁ q q p p 101
   unfolding matcher.says matcher.says_at number_told report_told place_told
-  match_many i = placed (values too_many_names []) q p 101 (ap (matcher.says_at m.place) i) refl refl refl
+  match_many v i e = placed (values too_many_names []) q p 101 (ap (matcher.says_at m.place) (i ∙ ap Ok e)) refl refl refl
 
-  pub match_done : (e : Parts) → m.answer ≡ Matched e → Places o s s₁ w w₁ q (e.count ∷ e.name_1 ∷ e.node_1 ∷ e.name_2 ∷ e.node_2 ∷ []) p p 0
+  pub match_done : (e : Parts) (v : Verdict) → m.answer ≡ Ok v → v ≡ Matched e → Places o s s₁ w w₁ q (e.count ∷ e.name_1 ∷ e.node_1 ∷ e.name_2 ∷ e.node_2 ∷ []) p p 0
   unfolding matcher.says matcher.says_at number_told report_told place_told
-  match_done e i = placed (values plain (e.count ∷ e.name_1 ∷ e.node_1 ∷ e.name_2 ∷ e.node_2 ∷ [])) _ p 0 (ap (matcher.says_at m.place) i) refl refl refl
+  match_done e v i j = placed (values plain (e.count ∷ e.name_1 ∷ e.node_1 ∷ e.name_2 ∷ e.node_2 ∷ [])) _ p 0 (ap (matcher.says_at m.place) (i ∙ ap Ok j)) refl refl refl
 
 pub place_dropped : (o : Outcome) (s s₁ w w₁ q q₁ p p₁ : List ℕ) (n : ℕ) → Places o s s₁ w w₁ q q₁ p p₁ n → Reports o s s₁ w w₁ q q₁ n
 place_dropped o s s₁ w w₁ q q₁ p p₁ n h = h.reports
 
 -- ---- read
 
-module _ (o : Outcome) (s s₁ w w₁ q : List ℕ) (a : ReadAnswer) (h : Settles read_says o s s₁ w w₁ a) where
-  pub check_refused : (e : Refusal) (n : ℕ) → a ≡ not_read e → n ≡ number_of e → Reports o s s₁ w w₁ q q n
+module _ (o : Outcome) (s s₁ w w₁ q : List ℕ) (a : Result ℕ Refusal) (h : Settles read_says o s s₁ w w₁ a) where
+  pub check_refused : (e : Refusal) (n : ℕ) → a ≡ Err e → n ≡ number_of e → Reports o s s₁ w w₁ q q n
   unfolding read_says number_told report_told
-  check_refused e n i j = reported read_says o s s₁ w w₁ q a (not_read e) h i q n j refl
+  check_refused e n i j = reported read_says o s s₁ w w₁ q a (Err e) h i q n j refl
 
-  pub check_done : (units : ℕ) → a ≡ Read units → Reports o s s₁ w w₁ q (units ∷ []) 0
+  pub check_done : (units : ℕ) → a ≡ Ok units → Reports o s s₁ w w₁ q (units ∷ []) 0
   unfolding read_says number_told report_told
-  check_done units i = reported read_says o s s₁ w w₁ q a (Read units) h i _ 0 refl refl
+  check_done units i = reported read_says o s s₁ w w₁ q a (Ok units) h i _ 0 refl refl
 
 -- ---- write, as a form or as text, and reading a text into a form
 
-module _ (o : Outcome) (s s₁ w w₁ q : List ℕ) (a : WriteAnswer) (h : Settles write_says o s s₁ w w₁ a) where
-  pub write_refused : (e : Refusal) (n : ℕ) → a ≡ not_written e → n ≡ number_of e → Reports o s s₁ w w₁ q q n
+module _ (o : Outcome) (s s₁ w w₁ q : List ℕ) (a : Result Written Refusal) (h : Settles write_says o s s₁ w w₁ a) where
+  pub write_refused : (e : Refusal) (n : ℕ) → a ≡ Err e → n ≡ number_of e → Reports o s s₁ w w₁ q q n
   unfolding write_says number_told report_told
-  write_refused e n i j = reported write_says o s s₁ w w₁ q a (not_written e) h i q n j refl
+  write_refused e n i j = reported write_says o s s₁ w w₁ q a (Err e) h i q n j refl
 
-  pub write_done : (count units : ℕ) → a ≡ Written count units → Reports o s s₁ w w₁ q (count ∷ units ∷ []) 0
+  pub write_done : (v : Written) → a ≡ Ok v → Reports o s s₁ w w₁ q (v.length ∷ v.units ∷ []) 0
   unfolding write_says number_told report_told
-  write_done count units i = reported write_says o s s₁ w w₁ q a (Written count units) h i _ 0 refl refl
+  write_done v i = reported write_says o s s₁ w w₁ q a (Ok v) h i _ 0 refl refl
 
 -- ---- where a text stops
 
-module _ (o : Outcome) (s s₁ w w₁ q : List ℕ) (a : FaultAnswer) (h : Settles fault_says o s s₁ w w₁ a) where
-  pub fault_refused : (e : Refusal) (n : ℕ) → a ≡ no-fault-told e → n ≡ number_of e → Reports o s s₁ w w₁ q q n
+module _ (o : Outcome) (s s₁ w w₁ q : List ℕ) (a : Result (Option ℕ) Refusal) (h : Settles fault_says o s s₁ w w₁ a) where
+  pub fault_refused : (e : Refusal) (n : ℕ) → a ≡ Err e → n ≡ number_of e → Reports o s s₁ w w₁ q q n
   unfolding fault_says number_told report_told
-  fault_refused e n i j = reported fault_says o s s₁ w w₁ q a (no-fault-told e) h i q n j refl
+  fault_refused e n i j = reported fault_says o s s₁ w w₁ q a (Err e) h i q n j refl
 
-  pub fault_at : (p : ℕ) → a ≡ At p → Reports o s s₁ w w₁ q (1 ∷ p ∷ []) 0
+  pub fault_at : (p : ℕ) (x : Option ℕ) → a ≡ Ok x → x ≡ Some p → Reports o s s₁ w w₁ q (1 ∷ p ∷ []) 0
   unfolding fault_says number_told report_told
-  fault_at p i = reported fault_says o s s₁ w w₁ q a (At p) h i _ 0 refl refl
+  fault_at p x i e = reported fault_says o s s₁ w w₁ q a (Ok (Some p)) h (i ∙ ap Ok e) _ 0 refl refl
 
-  pub fault_none : a ≡ NoFault → Reports o s s₁ w w₁ q (0 ∷ 0 ∷ []) 0
+  pub fault_none : (x : Option ℕ) → a ≡ Ok x → x ≡ None → Reports o s s₁ w w₁ q (0 ∷ 0 ∷ []) 0
   unfolding fault_says number_told report_told
-  fault_none i = reported fault_says o s s₁ w w₁ q a NoFault h i _ 0 refl refl
+  fault_none x i e = reported fault_says o s s₁ w w₁ q a (Ok None) h (i ∙ ap Ok e) _ 0 refl refl

@@ -12,9 +12,7 @@ ghost use Rattle.texts.specs.Faults as faults;
 ghost use Rattle.library.specs.Reports.{Reports, Places};
 ghost use Rattle.library.specs.Totals.{savings_in, numbers_of, Totals};
 
-use umlazgrin::{
-    Answer, Column, EvalAnswer, FaultAnswer, MatchAnswer, ReadAnswer, Refusal, Savings, WriteAnswer,
-};
+use umlazgrin::{Column, Refusal, Savings, Verdict};
 
 // What the matcher returns beside the refusals' numbers.
 const NO_MATCH: u8 = 100;
@@ -32,8 +30,8 @@ pub extern "C" fn umlazgrin_optimise(
     ensures { Reports (run form.now (length room.old) (length out.old)) room.old room.new out.old out.new report.old report.new result }
 {
     match umlazgrin::optimise(form, room, out) {
-        Answer::Refused(e) => refusals::number_of(e),
-        Answer::Answered(r) => {
+        Err(e) => refusals::number_of(e),
+        Ok(r) => {
             *report = [r.length, r.passes, r.units, r.mark as usize];
             0
         }
@@ -52,9 +50,9 @@ pub extern "C" fn umlazgrin_evaluate(
     ensures { Reports (evaluation.outcome forms.now first (length room.old) (length out.old)) room.old room.new out.old out.new report.old report.new result }
 {
     match umlazgrin::evaluate(forms, first, room, out) {
-        EvalAnswer::Refused(e) => refusals::number_of(e),
-        EvalAnswer::Value(length, steps, units) => {
-            *report = [length, steps, units];
+        Err(e) => refusals::number_of(e),
+        Ok(v) => {
+            *report = [v.length, v.steps, v.units];
             0
         }
     }
@@ -75,16 +73,18 @@ pub extern "C" fn umlazgrin_match_place(
     let m = umlazgrin::matches(forms, first, room, out);
     let stop = m.place;
     match m.answer {
-        MatchAnswer::Refused(e) => refusals::number_of(e),
-        MatchAnswer::NoMatch => {
-            *place = stop;
-            NO_MATCH
-        }
-        MatchAnswer::TooManyNames => TOO_MANY_NAMES,
-        MatchAnswer::Matched(p) => {
-            *report = [p.count, p.name_1, p.node_1, p.name_2, p.node_2];
-            0
-        }
+        Err(e) => refusals::number_of(e),
+        Ok(verdict) => match verdict {
+            Verdict::NoMatch => {
+                *place = stop;
+                NO_MATCH
+            }
+            Verdict::TooManyNames => TOO_MANY_NAMES,
+            Verdict::Matched(p) => {
+                *report = [p.count, p.name_1, p.node_1, p.name_2, p.node_2];
+                0
+            }
+        },
     }
 }
 
@@ -109,8 +109,8 @@ pub extern "C" fn umlazgrin_check(form: &[u8], room: &mut [u8], report: &mut [us
     ensures { Reports (forms.read_outcome form.now (length room.old)) room.old room.new [] [] report.old report.new result }
 {
     match umlazgrin::read(form, room) {
-        ReadAnswer::Refused(e) => refusals::number_of(e),
-        ReadAnswer::Read(units) => {
+        Err(e) => refusals::number_of(e),
+        Ok(units) => {
             *report = [units];
             0
         }
@@ -128,9 +128,9 @@ pub extern "C" fn umlazgrin_write(
     ensures { Reports (forms.write_outcome form.now (length room.old) (length out.old)) room.old room.new out.old out.new report.old report.new result }
 {
     match umlazgrin::write(form, room, out) {
-        WriteAnswer::Refused(e) => refusals::number_of(e),
-        WriteAnswer::Written(length, units) => {
-            *report = [length, units];
+        Err(e) => refusals::number_of(e),
+        Ok(w) => {
+            *report = [w.length, w.units];
             0
         }
     }
@@ -200,9 +200,9 @@ pub extern "C" fn umlazgrin_read_text(
     ensures { Reports (notation.read_text_outcome text.now (length room.old) (length out.old)) room.old room.new out.old out.new report.old report.new result }
 {
     match umlazgrin::read_text(text, room, out) {
-        WriteAnswer::Refused(e) => refusals::number_of(e),
-        WriteAnswer::Written(length, units) => {
-            *report = [length, units];
+        Err(e) => refusals::number_of(e),
+        Ok(w) => {
+            *report = [w.length, w.units];
             0
         }
     }
@@ -219,9 +219,9 @@ pub extern "C" fn umlazgrin_write_text(
     ensures { Reports (notation.write_text_outcome form.now (length room.old) (length out.old)) room.old room.new out.old out.new report.old report.new result }
 {
     match umlazgrin::write_text(form, room, out) {
-        WriteAnswer::Refused(e) => refusals::number_of(e),
-        WriteAnswer::Written(length, units) => {
-            *report = [length, units];
+        Err(e) => refusals::number_of(e),
+        Ok(w) => {
+            *report = [w.length, w.units];
             0
         }
     }
@@ -238,8 +238,8 @@ pub extern "C" fn umlazgrin_optimise_text(
     ensures { Reports (notation.optimise_text_outcome text.now (length room.old) (length out.old)) room.old room.new out.old out.new report.old report.new result }
 {
     match umlazgrin::optimise_text(text, room, out) {
-        Answer::Refused(e) => refusals::number_of(e),
-        Answer::Answered(a) => {
+        Err(e) => refusals::number_of(e),
+        Ok(a) => {
             *report = [a.length, a.passes, a.units, a.mark as usize];
             0
         }
@@ -258,9 +258,9 @@ pub extern "C" fn umlazgrin_evaluate_text(
     ensures { Reports (notation.evaluate_text_outcome texts.now first (length room.old) (length out.old)) room.old room.new out.old out.new report.old report.new result }
 {
     match umlazgrin::evaluate_text(texts, first, room, out) {
-        EvalAnswer::Refused(e) => refusals::number_of(e),
-        EvalAnswer::Value(length, steps, units) => {
-            *report = [length, steps, units];
+        Err(e) => refusals::number_of(e),
+        Ok(v) => {
+            *report = [v.length, v.steps, v.units];
             0
         }
     }
@@ -272,13 +272,12 @@ pub extern "C" fn umlazgrin_text_fault(text: &[u8], room: &mut [u8], report: &mu
     ensures { Reports (faults.fault_outcome text.now (length room.old)) room.old room.new [] [] report.old report.new result }
 {
     match umlazgrin::text_fault(text, room) {
-        FaultAnswer::Refused(e) => refusals::number_of(e),
-        FaultAnswer::At(place) => {
-            *report = [1, place];
-            0
-        }
-        FaultAnswer::NoFault => {
-            *report = [0, 0];
+        Err(e) => refusals::number_of(e),
+        Ok(fault) => {
+            *report = match fault {
+                Some(place) => [1, place],
+                None => [0, 0],
+            };
             0
         }
     }

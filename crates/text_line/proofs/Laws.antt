@@ -169,13 +169,13 @@ module _ (f s s' : List ℕ) (a : Result (Option ℕ) Refusal) (h : Settles faul
       let b : Answers (fault_outcome f (length s)) plain ns [] [] = told_answer (fault_outcome f (length s)) plain ns [] [] (sym e ∙ h.delivers.answer) h.delivers.out in
       subst (λ (o : Outcome). Printed (fault_line o) t t' at k) (sym b.is) z
 
-  pub fault_at : (p : ℕ) (t u v : List ℕ) (at k m : ℕ) → Printed (numbers_line (p ∷ [])) u v k m → Printed (97 ∷ 116 ∷ []) t u at k → a ≡ Ok (Some p) → Printed (fault_line (fault_outcome f (length s))) t v at m
+  pub fault_at : (p : ℕ) (t u v : List ℕ) (at k m : ℕ) → Printed (numbers_line (p ∷ [])) u v k m → Printed (97 ∷ 116 ∷ []) t u at k → (x : Option ℕ) → a ≡ Ok x → x ≡ Some p → Printed (fault_line (fault_outcome f (length s))) t v at m
   unfolding fault_says fault_words
-  fault_at p t u v at k m z y i = told_line (1 ∷ p ∷ []) t v at m (ap fault_says i) (joined (97 ∷ 116 ∷ []) (numbers_line (p ∷ [])) t u v at k m z y)
+  fault_at p t u v at k m z y x i e = told_line (1 ∷ p ∷ []) t v at m (ap fault_says (i ∙ ap Ok e)) (joined (97 ∷ 116 ∷ []) (numbers_line (p ∷ [])) t u v at k m z y)
 
-  pub fault_none : (t t' : List ℕ) (at k : ℕ) → Printed (110 ∷ 111 ∷ 32 ∷ 102 ∷ 97 ∷ 117 ∷ 108 ∷ 116 ∷ 10 ∷ []) t t' at k → a ≡ (Ok None) → Printed (fault_line (fault_outcome f (length s))) t t' at k
+  pub fault_none : (t t' : List ℕ) (at k : ℕ) → Printed (110 ∷ 111 ∷ 32 ∷ 102 ∷ 97 ∷ 117 ∷ 108 ∷ 116 ∷ 10 ∷ []) t t' at k → (x : Option ℕ) → a ≡ Ok x → x ≡ None → Printed (fault_line (fault_outcome f (length s))) t t' at k
   unfolding fault_says fault_words
-  fault_none t t' at k z i = told_line (0 ∷ 0 ∷ []) t t' at k (ap fault_says i) z
+  fault_none t t' at k z x i e = told_line (0 ∷ 0 ∷ []) t t' at k (ap fault_says (i ∙ ap Ok e)) z
 
   pub fault_no : (e : Refusal) (n : ℕ) (t t' : List ℕ) (at k : ℕ) → Printed (no_number n) t t' at k → n ≡ number_of e → a ≡ Err e → Printed (fault_line (fault_outcome f (length s))) t t' at k
   unfolding fault_says fault_line

@@ -102,10 +102,12 @@ pub fn print_fault(source: &[u8], room: &mut [u8], text: &mut [u8], at: usize) -
 {
     match texts::text_fault(source, room) {
         Err(e) => lines::print_no(text, at, refusals::number_of(e)),
-        Ok(None) => lines::print_word(text, at, b"no fault\n"),
-        Ok(Some(p)) => {
-            let a = lines::print_word(text, at, b"at");
-            lines::print_numbers(text, a, &[p])
-        }
+        Ok(fault) => match fault {
+            None => lines::print_word(text, at, b"no fault\n"),
+            Some(p) => {
+                let a = lines::print_word(text, at, b"at");
+                lines::print_numbers(text, a, &[p])
+            }
+        },
     }
 }

@@ -2,8 +2,8 @@
 use Rattle.library.proofs.Reports as laws
 use Rattle.library.proofs.umlazgrin_check.Goals as goal
 
-pub returns-in-Refused : goal.returns-in-Refused
-returns-in-Refused c = search laws.check_refused
+pub returns-in-Err : goal.returns-in-Err
+returns-in-Err c = search laws.check_refused
 
-pub returns-in-Read : goal.returns-in-Read
-returns-in-Read c = search laws.check_done
+pub returns-in-Ok : goal.returns-in-Ok
+returns-in-Ok c = search laws.check_done

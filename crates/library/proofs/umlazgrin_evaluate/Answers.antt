@@ -2,8 +2,8 @@
 use Rattle.library.proofs.Reports as laws
 use Rattle.library.proofs.umlazgrin_evaluate.Goals as goal
 
-pub returns-in-Refused : goal.returns-in-Refused
-returns-in-Refused c = search laws.evaluate_refused
+pub returns-in-Err : goal.returns-in-Err
+returns-in-Err c = search laws.evaluate_refused
 
-pub returns-in-Value : goal.returns-in-Value
-returns-in-Value c = search laws.evaluate_done
+pub returns-in-Ok : goal.returns-in-Ok
+returns-in-Ok c = search laws.evaluate_done

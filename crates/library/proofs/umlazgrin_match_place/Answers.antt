@@ -2,8 +2,8 @@
 use Rattle.library.proofs.Reports as laws
 use Rattle.library.proofs.umlazgrin_match_place.Goals as goal
 
-pub returns-in-Refused : goal.returns-in-Refused
-returns-in-Refused c = search laws.match_refused
+pub returns-in-Err : goal.returns-in-Err
+returns-in-Err c = search laws.match_refused
 
 pub returns-in-NoMatch : goal.returns-in-NoMatch
 returns-in-NoMatch c = search laws.match_none

@@ -2,8 +2,8 @@
 use Rattle.library.proofs.Reports as laws
 use Rattle.library.proofs.umlazgrin_optimise.Goals as goal
 
-pub returns-in-Refused : goal.returns-in-Refused
-returns-in-Refused c = search laws.optimise_refused
+pub returns-in-Err : goal.returns-in-Err
+returns-in-Err c = search laws.optimise_refused
 
-pub returns-in-Answered : goal.returns-in-Answered
-returns-in-Answered c = search laws.optimise_done
+pub returns-in-Ok : goal.returns-in-Ok
+returns-in-Ok c = search laws.optimise_done

@@ -2,11 +2,11 @@
 use Rattle.library.proofs.Reports as laws
 use Rattle.library.proofs.umlazgrin_text_fault.Goals as goal
 
-pub returns-in-Refused : goal.returns-in-Refused
-returns-in-Refused c = search laws.fault_refused
+pub returns-in-Err : goal.returns-in-Err
+returns-in-Err c = search laws.fault_refused
 
-pub returns-in-At : goal.returns-in-At
-returns-in-At c = search laws.fault_at
+pub returns-in-Some : goal.returns-in-Some
+returns-in-Some c = search laws.fault_at
 
-pub returns-in-NoFault : goal.returns-in-NoFault
-returns-in-NoFault c = search laws.fault_none
+pub returns-in-None : goal.returns-in-None
+returns-in-None c = search laws.fault_none

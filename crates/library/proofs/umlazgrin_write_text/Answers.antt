@@ -2,8 +2,8 @@
 use Rattle.library.proofs.Reports as laws
 use Rattle.library.proofs.umlazgrin_write_text.Goals as goal
 
-pub returns-in-Refused : goal.returns-in-Refused
-returns-in-Refused c = search laws.write_refused
+pub returns-in-Err : goal.returns-in-Err
+returns-in-Err c = search laws.write_refused
 
-pub returns-in-Written : goal.returns-in-Written
-returns-in-Written c = search laws.write_done
+pub returns-in-Ok : goal.returns-in-Ok
+returns-in-Ok c = search laws.write_done
