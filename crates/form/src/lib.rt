@@ -442,7 +442,7 @@ pub fn deliver_node<'a>(form: &'a [u8], room: &'a [u8], n: usize, out: &mut [u8]
 
 // ---- two forms in one slice
 
-// Where the first form ends: all bytes are its own where there are no more than first.
+// Where the first form, or the first text, ends: all bytes are its own where there are no more than first.
 pub fn cut(forms: &[u8], first: usize) -> usize
     ensures { Cut forms.now first result }
 {

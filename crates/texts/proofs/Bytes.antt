@@ -98,113 +98,114 @@ no_text {A} says o w w₁ r n v i d =
 
 -- ---- write_text
 
-module _ (f s₁ w : List ℕ) (m : Result Made Refusal) (o : WholeOk f s₁ m) where
-  abbrev written : Outcome
-  written = ended (delivered_text (length w)) (read_form f 0)
-
-  pub whole_refused : (n : Refusal) → m ≡ Err n → Delivers write_says written w w (Err n)
-  unfolding write_says WholeOk
-  whole_refused n e = go (rw e at o)
-    where
-      go : Stops (read_form f 0) n → Delivers write_says written w w (Err n)
-      go (stops y i) = ended_refused write_says (delivered_text (length w)) (read_form f 0) n y w (Err n) i refl
-
-  module _ (x : Made) (e : m ≡ Ok x) (w₁ : List ℕ) (r : Option ℕ) (d : Delivered (text_of (tree_at f s₁ x.node)) w w₁ r) where
-    whole : WholeTo f s₁ x.ch x.node
-    unfolding WholeOk
-    whole = rw e at o
-
-    pub whole_over : (n : Refusal) → Err n ≡ ok_or r OutputShort → r ≡ None → Delivers write_says written w w₁ (Err n)
-    unfolding delivered_text write_says
-    whole_over n v i = no_text write_says written w w₁ r n v i
-        (ended_done write_says (delivered_text (length w)) (read_form f 0) (tree_at f s₁ x.node) _ w w₁ _ whole.is (text_over write_says (tree_at f s₁ x.node) (x.ch.units ∷ []) w w₁ r d (Err OutputShort) refl i))
-
-    pub whole_fits : (k : ℕ) → r ≡ Some k → Delivers write_says written w w₁ (Ok (record { length = k; units = x.ch.units }))
-    unfolding delivered_text write_says
-    whole_fits k i = ended_done write_says (delivered_text (length w)) (read_form f 0) (tree_at f s₁ x.node) _ w w₁ _ whole.is (text_fits write_says (tree_at f s₁ x.node) (x.ch.units ∷ []) w w₁ r d _ k refl i)
-
-module _ (f s w : List ℕ) where
+module _ (f w : List ℕ) where
   abbrev wrote : Outcome
   wrote = ended (delivered_text (length w)) (read_form f 0)
+
+  module _ (s₁ : List ℕ) (m : Result Made Refusal) (o : WholeOk f s₁ m) where
+    pub form_refused : (n : Refusal) → m ≡ Err n → Delivers write_says wrote w w (Err n)
+    unfolding write_says WholeOk
+    form_refused n e = go (rw e at o)
+      where
+        go : Stops (read_form f 0) n → Delivers write_says wrote w w (Err n)
+        go (stops y i) = ended_refused write_says (delivered_text (length w)) (read_form f 0) n y w (Err n) i refl
+
+    module _ (x : Made) (e : m ≡ Ok x) (w₁ : List ℕ) (r : Option ℕ) (d : Delivered (text_of (tree_at f s₁ x.node)) w w₁ r) where
+      whole : WholeTo f s₁ x.ch x.node
+      unfolding WholeOk
+      whole = rw e at o
+
+      told_so : (a : Result Written Refusal) → Delivers write_says (delivered_text (length w) (tree_at f s₁ x.node) (record { left = []; units = x.ch.units })) w w₁ a → Delivers write_says wrote w w₁ a
+      told_so a k = ended_done write_says (delivered_text (length w)) (read_form f 0) (tree_at f s₁ x.node) _ w w₁ a whole.is k
+
+      pub form_over : (n : Refusal) → Err n ≡ ok_or r OutputShort → r ≡ None → Delivers write_says wrote w w₁ (Err n)
+      unfolding delivered_text write_says
+      form_over n v i = no_text write_says wrote w w₁ r n v i (told_so (Err OutputShort) (text_over write_says (tree_at f s₁ x.node) (x.ch.units ∷ []) w w₁ r d (Err OutputShort) refl i))
+
+      pub form_fits : (k : ℕ) → r ≡ Some k → Delivers write_says wrote w w₁ (Ok (record { length = k; units = x.ch.units }))
+      unfolding delivered_text write_says
+      form_fits k i = told_so _ (text_fits write_says (tree_at f s₁ x.node) (x.ch.units ∷ []) w w₁ r d _ k refl i)
 
   write_zeros : Zeros wrote
   unfolding delivered_text
   write_zeros = zeros_worked (delivered_text (length w)) (λ t x. zeros_text (length w) t (x.units ∷ [])) (read_form f 0) (touched_zeroing (read_form f 0) (late_read f 0))
 
-  pub write_small : length s < room_least → Settles write_says (write_text_outcome f (length s) (length w)) s s w w (Err RoomSmall)
-  unfolding write_text_outcome write_says
-  write_small h = small_settles write_says wrote s w (Err RoomSmall) refl h
+  module _ (s : List ℕ) where
+    pub write_small : length s < room_least → Settles write_says (write_text_outcome f (length s) (length w)) s s w w (Err RoomSmall)
+    unfolding write_text_outcome write_says
+    write_small h = small_settles write_says wrote s w (Err RoomSmall) refl h
 
-  pub write_done : (s₁ s₂ w₁ : List ℕ) (a : Result Written Refusal) → Delivers write_says wrote w w₁ a → s₂ ≡ zeroed s₁ → length s₁ ≡ length s → room_least ≤ length s
-      → Settles write_says (write_text_outcome f (length s) (length w)) s s₂ w w₁ a
-  unfolding write_text_outcome
-  write_done s₁ s₂ w₁ a d z same h = zeroed_settles write_says wrote s s₁ s₂ w w₁ a d write_zeros h z same
+    pub write_done : (s₁ s₂ w₁ : List ℕ) (a : Result Written Refusal) → Delivers write_says wrote w w₁ a → s₂ ≡ zeroed s₁ → length s₁ ≡ length s → room_least ≤ length s
+        → Settles write_says (write_text_outcome f (length s) (length w)) s s₂ w w₁ a
+    unfolding write_text_outcome
+    write_done s₁ s₂ w₁ a d z same h = zeroed_settles write_says wrote s s₁ s₂ w w₁ a d write_zeros h z same
 
 -- ---- optimise_text
 
-module _ (f s w : List ℕ) (x : Result Finished Refusal) (o : WorkedOk f s x) where
-  pub run_refused : (n : Refusal) → x ≡ Err n → Delivers says (ended (delivered_run (length w)) (worked f)) w w (Err n)
-  unfolding WorkedOk says
-  run_refused n e = let by : StoppedBy n (worked f) = rw e at o in ended_refused says (delivered_run (length w)) (worked f) n by.after w (Err n) by.stops refl
+module _ (f w : List ℕ) where
+  abbrev ran : Outcome
+  ran = ended (delivered_run (length w)) (worked f)
 
-  module _ (y : Finished) (e : x ≡ Ok y) where
-    abbrev n : ℕ
-    n = y.node
+  module _ (s : List ℕ) (x : Result Finished Refusal) (o : WorkedOk f s x) where
+    pub run_refused : (n : Refusal) → x ≡ Err n → Delivers says ran w w (Err n)
+    unfolding WorkedOk says
+    run_refused n e = let by : StoppedBy n (worked f) = rw e at o in ended_refused says (delivered_run (length w)) (worked f) n by.after w (Err n) by.stops refl
 
-    abbrev k : Work
-    k = y.work
+    module _ (y : Finished) (e : x ≡ Ok y) where
+      abbrev n : ℕ
+      n = y.node
 
-    to : WorkedTo f s n k
-    unfolding WorkedOk
-    to = rw e at o
+      abbrev k : Work
+      k = y.work
 
-    pub run_writable : Writable f s n
-    run_writable = to.writable
+      to : WorkedTo f s n k
+      unfolding WorkedOk
+      to = rw e at o
 
-    module _ (w₁ : List ℕ) (r : Option ℕ) (d : Delivered (text_of (tree_at f s n)) w w₁ r) where
-      abbrev numbers : List ℕ
-      numbers = k.passes ∷ k.ch.units ∷ mark_number k.mark ∷ []
+      pub run_writable : Writable f s n
+      run_writable = to.writable
 
-      pub run_over : (u : Refusal) → Err u ≡ ok_or r OutputShort → r ≡ None → Delivers says (ended (delivered_run (length w)) (worked f)) w w₁ (Err u)
-      unfolding delivered_run says
-      run_over u v i = no_text says (ended (delivered_run (length w)) (worked f)) w w₁ r u v i
-          (ended_done says (delivered_run (length w)) (worked f) (tree_at f s n) (spent_of k) w w₁ (Err OutputShort) to.is
-          (text_over says (tree_at f s n) numbers w w₁ r d (Err OutputShort) refl i))
+      module _ (w₁ : List ℕ) (r : Option ℕ) (d : Delivered (text_of (tree_at f s n)) w w₁ r) where
+        abbrev numbers : List ℕ
+        numbers = k.passes ∷ k.ch.units ∷ mark_number k.mark ∷ []
 
-      pub run_fits : (j : ℕ) → r ≡ Some j
-          → Delivers says (ended (delivered_run (length w)) (worked f)) w w₁ (Ok (record { length = j; passes = k.passes; units = k.ch.units; mark = k.mark }))
-      unfolding delivered_run says
-      run_fits j i = ended_done says (delivered_run (length w)) (worked f) (tree_at f s n) (spent_of k) w w₁ _ to.is
-          (text_fits says (tree_at f s n) numbers w w₁ r d (Ok (record { length = j; passes = k.passes; units = k.ch.units; mark = k.mark })) j refl i)
+        told_of_run : (a : Result Report Refusal) → Delivers says (delivered_run (length w) (tree_at f s n) (spent_of k)) w w₁ a → Delivers says ran w w₁ a
+        told_of_run a h = ended_done says (delivered_run (length w)) (worked f) (tree_at f s n) (spent_of k) w w₁ a to.is h
 
-module _ (text s w : List ℕ) where
+        pub run_over : (u : Refusal) → Err u ≡ ok_or r OutputShort → r ≡ None → Delivers says ran w w₁ (Err u)
+        unfolding delivered_run says
+        run_over u v i = no_text says ran w w₁ r u v i (told_of_run (Err OutputShort) (text_over says (tree_at f s n) numbers w w₁ r d (Err OutputShort) refl i))
+
+        pub run_fits : (j : ℕ) → r ≡ Some j → Delivers says ran w w₁ (Ok (record { length = j; passes = k.passes; units = k.ch.units; mark = k.mark }))
+        unfolding delivered_run says
+        run_fits j i = told_of_run _ (text_fits says (tree_at f s n) numbers w w₁ r d _ j refl i)
+
+module _ (text w : List ℕ) where
   abbrev optimised : Outcome
   optimised = ended (delivered_run (length w)) (worked_on (read_text text 0))
+
+  module _ (f : List ℕ) (x : Result ℕ Refusal) (o : ConvertedOk text f x) where
+    pub run_unconverted : (n : Refusal) → x ≡ Err n → Delivers says optimised w w (Err n)
+    unfolding says worked_on
+    run_unconverted n e = go (unconverted text f x o n e 0)
+      where
+        go : Stops (read_text text 0) n → Delivers says optimised w w (Err n)
+        go (stops y i) = ended_refused says (delivered_run (length w)) (worked_on (read_text text 0)) n _ w (Err n) (ap worked_on i) refl
+
+    pub run_converted : (n : ℕ) → x ≡ Ok n → (w₁ : List ℕ) (a : Result Report Refusal) → Delivers says (ran (take n f) w) w w₁ a → Delivers says optimised w w₁ a
+    unfolding worked
+    run_converted n e w₁ a d = let i : read_text text 0 ≡ read_form (take n f) 0 = (converted_to text f x o n e).is 0 in rw i d
 
   optimise_zeros : Zeros optimised
   unfolding delivered_run
   optimise_zeros = zeros_worked (delivered_run (length w)) (λ t x. zeros_text (length w) t (x.passes ∷ x.units ∷ mark_number x.mark ∷ [])) (worked_on (read_text text 0)) (run_zeroing text)
 
-  pub optimise_small : length s < room_least → Settles says (optimise_text_outcome text (length s) (length w)) s s w w (Err RoomSmall)
-  unfolding optimise_text_outcome says
-  optimise_small h = small_settles says optimised s w (Err RoomSmall) refl h
+  module _ (s : List ℕ) where
+    pub optimise_small : length s < room_least → Settles says (optimise_text_outcome text (length s) (length w)) s s w w (Err RoomSmall)
+    unfolding optimise_text_outcome says
+    optimise_small h = small_settles says optimised s w (Err RoomSmall) refl h
 
-  pub optimise_done : (s₁ s₂ w₁ : List ℕ) (a : Result Report Refusal) → Delivers says optimised w w₁ a → s₂ ≡ zeroed s₁ → length s₁ ≡ length s → room_least ≤ length s
-      → Settles says (optimise_text_outcome text (length s) (length w)) s s₂ w w₁ a
-  unfolding optimise_text_outcome
-  optimise_done s₁ s₂ w₁ a d z same h = zeroed_settles says optimised s s₁ s₂ w w₁ a d optimise_zeros h z same
-
-module _ (text w f : List ℕ) (x : Result ℕ Refusal) (o : ConvertedOk text f x) where
-  pub run_unconverted : (n : Refusal) → x ≡ Err n → Delivers says (ended (delivered_run (length w)) (worked_on (read_text text 0))) w w (Err n)
-  unfolding says worked_on
-  run_unconverted n e = go (unconverted text f x o n e 0)
-    where
-      go : Stops (read_text text 0) n → Delivers says (ended (delivered_run (length w)) (worked_on (read_text text 0))) w w (Err n)
-      go (stops y i) = ended_refused says (delivered_run (length w)) (worked_on (read_text text 0)) n _ w (Err n) (ap worked_on i) refl
-
-  pub run_converted : (n : ℕ) → x ≡ Ok n → (w₁ : List ℕ) (a : Result Report Refusal) → Delivers says (ended (delivered_run (length w)) (worked (take n f))) w w₁ a
-      → Delivers says (ended (delivered_run (length w)) (worked_on (read_text text 0))) w w₁ a
-  unfolding worked
-  run_converted n e w₁ a d =
-      let i : read_text text 0 ≡ read_form (take n f) 0 = (converted_to text f x o n e).is 0 in
-      rw i d
+    pub optimise_done : (s₁ s₂ w₁ : List ℕ) (a : Result Report Refusal) → Delivers says optimised w w₁ a → s₂ ≡ zeroed s₁ → length s₁ ≡ length s → room_least ≤ length s
+        → Settles says (optimise_text_outcome text (length s) (length w)) s s₂ w w₁ a
+    unfolding optimise_text_outcome
+    optimise_done s₁ s₂ w₁ a d z same h = zeroed_settles says optimised s s₁ s₂ w w₁ a d optimise_zeros h z same

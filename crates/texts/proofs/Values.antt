@@ -161,31 +161,37 @@ module _ (t f : List ℕ) (mid : ℕ) (x : Result ℕ Refusal) (o : FirstOk (tak
 
 -- ---- delivering
 
-module _ (f s w : List ℕ) (v : Out Steps Tree) (a : Result Valued Refusal) (o : WorkedOk f s v a) where
-  pub value_refused : (n : Refusal) → a ≡ Err n → Delivers says (ended (delivered_value (length w)) v) w w (Err n)
-  unfolding WorkedOk stopped says ended
-  value_refused n e = go v (rw e at o)
-    where
-      go : (x : Out Steps Tree) → stopped x ≡ some n → Delivers says (ended (delivered_value (length w)) x) w w (Err n)
-      go (done t y) i = absurd (let j : ◌≡◌ {A = ℕ} 0 1 = cc in omega arith)
-      go (stop m y) i = let j : number (number_of n) ≡ number (number_of m) = cc in refusal_delivered says m w (Err n) j
+module _ (v : Out Steps Tree) (w : List ℕ) where
+  abbrev valued : Outcome
+  valued = ended (delivered_value (length w)) v
 
-  module _ (x : Valued) (e : a ≡ Ok x) (w₁ : List ℕ) (r : Option ℕ) (d : Delivered (text_of (tree_at f s x.node)) w w₁ r) where
-    abbrev counts : List ℕ
-    counts = x.meter.steps ∷ x.meter.ch.units ∷ []
+  module _ (f s : List ℕ) (a : Result Valued Refusal) (o : WorkedOk f s v a) where
+    pub value_refused : (n : Refusal) → a ≡ Err n → Delivers says valued w w (Err n)
+    unfolding WorkedOk stopped says ended
+    value_refused n e = go v (rw e at o)
+      where
+        go : (x : Out Steps Tree) → stopped x ≡ some n → Delivers says (ended (delivered_value (length w)) x) w w (Err n)
+        go (done t y) i = absurd (let j : ◌≡◌ {A = ℕ} 0 1 = cc in omega arith)
+        go (stop m y) i = let j : number (number_of n) ≡ number (number_of m) = cc in refusal_delivered says m w (Err n) j
 
-    to : WorkedTo f s x.meter x.node v
-    unfolding WorkedOk
-    to = rw e at o
+    module _ (x : Valued) (e : a ≡ Ok x) (w₁ : List ℕ) (r : Option ℕ) (d : Delivered (text_of (tree_at f s x.node)) w w₁ r) where
+      abbrev counts : List ℕ
+      counts = x.meter.steps ∷ x.meter.ch.units ∷ []
 
-    pub value_over : (n : Refusal) → Err n ≡ ok_or r OutputShort → r ≡ None → Delivers says (ended (delivered_value (length w)) v) w w₁ (Err n)
-    unfolding delivered_value says
-    value_over n u i = no_text says (ended (delivered_value (length w)) v) w w₁ r n u i
-        (ended_done says (delivered_value (length w)) v (tree_at f s x.node) (state x.meter) w w₁ _ to.is (text_over says (tree_at f s x.node) counts w w₁ r d (Err OutputShort) refl i))
+      to : WorkedTo f s x.meter x.node v
+      unfolding WorkedOk
+      to = rw e at o
 
-    pub value_fits : (k : ℕ) → r ≡ Some k → Delivers says (ended (delivered_value (length w)) v) w w₁ (Ok (record { length = k; steps = x.meter.steps; units = x.meter.ch.units }))
-    unfolding delivered_value says
-    value_fits k i = ended_done says (delivered_value (length w)) v (tree_at f s x.node) (state x.meter) w w₁ _ to.is (text_fits says (tree_at f s x.node) counts w w₁ r d _ k refl i)
+      told_so : (b : Result Evaluated Refusal) → Delivers says (delivered_value (length w) (tree_at f s x.node) (state x.meter)) w w₁ b → Delivers says valued w w₁ b
+      told_so b h = ended_done says (delivered_value (length w)) v (tree_at f s x.node) (state x.meter) w w₁ b to.is h
+
+      pub value_over : (n : Refusal) → Err n ≡ ok_or r OutputShort → r ≡ None → Delivers says valued w w₁ (Err n)
+      unfolding delivered_value says
+      value_over n u i = no_text says valued w w₁ r n u i (told_so (Err OutputShort) (text_over says (tree_at f s x.node) counts w w₁ r d (Err OutputShort) refl i))
+
+      pub value_fits : (k : ℕ) → r ≡ Some k → Delivers says valued w w₁ (Ok (record { length = k; steps = x.meter.steps; units = x.meter.ch.units }))
+      unfolding delivered_value says
+      value_fits k i = told_so _ (text_fits says (tree_at f s x.node) counts w w₁ r d _ k refl i)
 
 -- ---- both texts
 
@@ -198,39 +204,40 @@ module _ (p e f : List ℕ) (x : Result Forms Refusal) (o : BothOk p e f x) (y :
   pub both_count : y.both ≡ length (take y.both f)
   both_count = sym (length-take-le y.both f both_within)
 
-module _ (t w : List ℕ) (first mid : ℕ) (c : Cut t first mid) (f : List ℕ) (x : Result Forms Refusal) (o : BothOk (take mid t) (drop mid t) f x) where
-  at_first : BothOk (take first t) (drop first t) f x
-  at_first = rw (← c.front, ← c.back) o
+module _ (t w : List ℕ) (first : ℕ) where
+  abbrev read : Out Reading Both
+  read = read_texts (take first t) (drop first t)
 
-  pub both_refused : (n : Refusal) → x ≡ Err n → Delivers says (ended (delivered_value (length w)) (worked_on (read_texts (take first t) (drop first t)))) w w (Err n)
-  unfolding says worked_on BothOk
-  both_refused n e = go (rw e at at_first)
-    where
-      go : Stops (read_texts (take first t) (drop first t)) n → Delivers says (ended (delivered_value (length w)) (worked_on (read_texts (take first t) (drop first t)))) w w (Err n)
-      go (stops y i) = ended_refused says (delivered_value (length w)) (worked_on (read_texts (take first t) (drop first t))) n _ w (Err n) (ap worked_on i) refl
-
-  pub both_valued : (z : Forms) → x ≡ Ok z → (w₁ : List ℕ) (a : Result Evaluated Refusal) → Delivers says (ended (delivered_value (length w)) (worked (take z.first (take z.both f)) (drop z.first (take z.both f)))) w w₁ a
-      → Delivers says (ended (delivered_value (length w)) (worked_on (read_texts (take first t) (drop first t)))) w w₁ a
-  unfolding worked BothOk
-  both_valued z e w₁ a d =
-      let y : BothTo (take first t) (drop first t) f z.first z.both = rw e at at_first in
-      rw y.is d
-
--- ---- the whole
-
-module _ (t s w : List ℕ) (first : ℕ) where
   abbrev value : Outcome
-  value = ended (delivered_value (length w)) (worked_on (read_texts (take first t) (drop first t)))
+  value = valued (worked_on read) w
+
+  module _ (mid : ℕ) (c : Cut t first mid) (f : List ℕ) (x : Result Forms Refusal) (o : BothOk (take mid t) (drop mid t) f x) where
+    at_first : BothOk (take first t) (drop first t) f x
+    at_first = rw (← c.front, ← c.back) o
+
+    pub both_refused : (n : Refusal) → x ≡ Err n → Delivers says value w w (Err n)
+    unfolding says worked_on BothOk
+    both_refused n e = go (rw e at at_first)
+      where
+        go : Stops read n → Delivers says value w w (Err n)
+        go (stops y i) = ended_refused says (delivered_value (length w)) (worked_on read) n _ w (Err n) (ap worked_on i) refl
+
+    pub both_valued : (z : Forms) → x ≡ Ok z → (w₁ : List ℕ) (a : Result Evaluated Refusal) → Delivers says (valued (worked (take z.first (take z.both f)) (drop z.first (take z.both f))) w) w w₁ a → Delivers says value w w₁ a
+    unfolding worked BothOk
+    both_valued z e w₁ a d = let y : BothTo (take first t) (drop first t) f z.first z.both = rw e at at_first in rw y.is d
+
+  -- ---- the whole
 
   zeros : Zeros value
   unfolding delivered_value
-  zeros = zeros_worked (delivered_value (length w)) (λ u x. zeros_text (length w) u (x.steps ∷ x.units ∷ [])) (worked_on (read_texts (take first t) (drop first t))) (value_zeroing (take first t) (drop first t))
+  zeros = zeros_worked (delivered_value (length w)) (λ u x. zeros_text (length w) u (x.steps ∷ x.units ∷ [])) (worked_on read) (value_zeroing (take first t) (drop first t))
 
-  pub evaluate_small : length s < room_least → Settles says (evaluate_text_outcome t first (length s) (length w)) s s w w (Err RoomSmall)
-  unfolding evaluate_text_outcome says
-  evaluate_small h = small_settles says value s w (Err RoomSmall) refl h
+  module _ (s : List ℕ) where
+    pub evaluate_small : length s < room_least → Settles says (evaluate_text_outcome t first (length s) (length w)) s s w w (Err RoomSmall)
+    unfolding evaluate_text_outcome says
+    evaluate_small h = small_settles says value s w (Err RoomSmall) refl h
 
-  pub evaluate_done : (s₁ s₂ w₁ : List ℕ) (a : Result Evaluated Refusal) → Delivers says value w w₁ a → s₂ ≡ zeroed s₁ → length s₁ ≡ length s → room_least ≤ length s
-      → Settles says (evaluate_text_outcome t first (length s) (length w)) s s₂ w w₁ a
-  unfolding evaluate_text_outcome
-  evaluate_done s₁ s₂ w₁ a d z same h = zeroed_settles says value s s₁ s₂ w w₁ a d zeros h z same
+    pub evaluate_done : (s₁ s₂ w₁ : List ℕ) (a : Result Evaluated Refusal) → Delivers says value w w₁ a → s₂ ≡ zeroed s₁ → length s₁ ≡ length s → room_least ≤ length s
+        → Settles says (evaluate_text_outcome t first (length s) (length w)) s s₂ w w₁ a
+    unfolding evaluate_text_outcome
+    evaluate_done s₁ s₂ w₁ a d z same h = zeroed_settles says value s s₁ s₂ w w₁ a d zeros h z same

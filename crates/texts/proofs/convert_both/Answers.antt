@@ -1,13 +1,8 @@
 -- convert_both: the program first, and the environment behind it.
 use Rattle.texts.proofs.Values as laws
-use lib.Seq.{length-take-le}
-use mathlib.Core.Path.{sym}
 use borrow.Author.Rules.{rules}
 use Rattle.std.proofs.lemmas.Result.{err_from_is_err_and}
 use Rattle.texts.proofs.convert_both.Goals as goal
-
-pub slice_bounds-convert_first-end : goal.slice_bounds-convert_first-end
-slice_bounds-convert_first-end c = sym (length-take-le _ _ (search rules))
 
 pub returns-in_err-first : goal.returns-in_err-first
 returns-in_err-first c = let p = err_from_is_err_and c.from_residual.result c.from_residual.ensures.1 in rw (p.1, p.2) (search (laws.program_refused, c.in_err-first.was))
