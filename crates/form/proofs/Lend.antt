@@ -1,10 +1,11 @@
 -- The output with something at its front, and what remains of it lent to a call that writes there. Assumes nothing.
 use mathlib.Core.Path.{◌≡◌, refl, sym, ◌∙◌, ap, ap₂}
 use mathlib.Core.List.{List, [], ◌∷◌, ◌++◌, append_assoc, append-nil}
-use Prim.Native.Nat.{ℕ, ◌+◌, ◌-◌, ◌<◌, ◌≤◌}
+use Prim.Native.Nat.{ℕ, suc, ◌+◌, ◌-◌, ◌<◌, ◌≤◌}
 use native.Mathlib.Omega.{arith}
-use lib.ListN.{length, take, drop, set, drop_of_length-le, length-append, length-drop}
-use lib.Seq.{take_all, drop-drop, take_at, drop_at}
+use lib.ListN.{length, take, drop, get_or, set, length-set, drop_of_length-le, length-append, length-drop}
+use lib.Seq.{take_all, drop-drop, drop-cons, take_at, drop_at, set_at, take-suc, take-length, append_snoc, length-take-le}
+use native.Mathlib.Numerals.{add-one}
 use borrow.Rule.Slice.PartMut.{put_mid, same_len_mid}
 use Rattle.form.specs.Writes.{Wrote}
 
@@ -61,3 +62,34 @@ then_wrote p w out out₁ ys a k d e h =
           ∙ sym (append_assoc p w (drop (length p + length w) out))
           ∙ ap (λ (y : ℕ). (p ++ w) ++ drop y out) (sym z);
     }
+
+-- ---- a copy, with the front of d replaced by i of s
+
+pub record Copying (s d₀ d : List ℕ) (i : ℕ) : Type 0 where
+  pub within : i ≤ length s
+  pub fits : length s ≤ length d₀
+  pub long : length d ≡ length d₀
+  pub is : d ≡ take i s ++ drop i d₀
+
+pub copy_starts : (s d : List ℕ) → length s ≤ length d → Copying s d d 0
+copy_starts s d h = record { within = omega arith; fits = h; long = refl; is = refl }
+
+pub copy_turn : (s d₀ d : List ℕ) (i : ℕ) → Copying s d₀ d i → i < length s → Copying s d₀ (set d i (get_or s i 0)) (i + 1)
+copy_turn s d₀ d i c h = record {
+  within = omega arith;
+  fits = c.fits;
+  long = length-set d i (get_or s i 0) ∙ c.long;
+  is =
+      let k : i < length d₀ = omega (arith, c.fits) in
+      let n : length (take i s) ≡ i = length-take-le i s (omega arith) in
+      rw (c.is, drop-cons d₀ i 0 k, set_at (take i s) (get_or d₀ i 0) (drop (suc i) d₀) (get_or s i 0) i n, add-one, take-suc s i 0 h)
+      (sym (append_snoc (take i s) (get_or s i 0) (drop (suc i) d₀)));
+}
+
+pub copy_ends : (s d₀ d : List ℕ) (i : ℕ) → Copying s d₀ d i → length s ≤ i → d ≡ s ++ drop (length s) d₀
+copy_ends s d₀ d i c h =
+    let e : i ≡ length s = omega (arith, c.within) in
+    c.is ∙ rw (e, take-length s)
+
+pub copy_long : (s d₀ d : List ℕ) (i : ℕ) → Copying s d₀ d i → length d ≡ length d₀
+copy_long s d₀ d i c = c.long

@@ -11,7 +11,11 @@ const DIRT: u8 = 0xdd;
 
 // How many bytes of b are not x.
 fn others(b: &[u8], x: u8) -> usize {
-    b.iter().filter(|y| **y != x).count()
+    let mut n = 0;
+    for y in b {
+        n += usize::from(*y != x);
+    }
+    n
 }
 
 fn say(words: &[u8], n: usize) {

@@ -109,7 +109,7 @@ pub extern "C" fn umlazgrin_check(form: &[u8], room: &mut [u8], report: &mut [us
     ensures { Reports (forms.read_outcome form.now (length room.old)) room.old room.new [] [] report.old report.new result }
 {
     match umlazgrin::read(form, room) {
-        Err(e) => refusals::number_of(e),
+        Err(refusal) => refusals::number_of(refusal),
         Ok(units) => {
             *report = [units];
             0

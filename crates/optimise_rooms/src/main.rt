@@ -35,7 +35,11 @@ fn show(b: &[u8]) {
 
 // How many bytes are not 0.
 fn count(s: &[u8]) -> usize {
-    s.iter().filter(|x| **x != 0).count()
+    let mut n = 0;
+    for x in s {
+        n += usize::from(*x != 0);
+    }
+    n
 }
 
 fn say_answer(a: Result<Report, Refusal>) {

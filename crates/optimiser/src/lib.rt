@@ -41,7 +41,7 @@ fn finish(w: Work, n: usize) -> Result<Finished, Refusal>
     }
 }
 
-// Reads the form and works its tree. The memo's row is lent after the reading: so its bytes are those that the reader had.
+// Reads the form and works its tree. The memo's row is lent after the reading.
 fn read_and_work(
     form: &[u8],
     room: &mut [u8],

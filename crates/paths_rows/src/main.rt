@@ -108,14 +108,14 @@ fn turn(input: Stdin, buf: &mut [u8], row: &mut [u8], text: &mut [u8], s: Lines)
     Lines { put, ..r }
 }
 
-// Nothing says that the input ends: the turns are counted, and no run uses them up.
+// Nothing says that the input ends: the turns are counted down, from a number that no run uses up.
 fn turns(input: Stdin, buf: &mut [u8], row: &mut [u8], text: &mut [u8])
     requires { line_most ≤ length text.old }
 {
     let mut s = lines::start();
-    for _ in 0..u64::MAX {
+    for turns in (1..=u64::MAX).rev() {
         s = turn(input, buf, row, text, s);
-        if matches!(s.got, Got::End) {
+        if lines::left(s, turns) == 0 {
             return;
         }
     }

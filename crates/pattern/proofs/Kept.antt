@@ -157,7 +157,7 @@ module _ (f s : List ℕ) (c : Charges) (ks : Bindings) (name : List ℕ) where
 -- ---- insert
 
 -- the tests that insert makes
-inserted_none : (ks : Bindings) (name node : ℕ) → ks.count ≡ 0 → Matched (record { count = 1; name_1 = name; node_1 = node; name_2 = 0; node_2 = 0 }) ≡ inserted ks name node
+pub inserted_none : (ks : Bindings) (name node : ℕ) → ks.count ≡ 0 → Matched (record { count = 1; name_1 = name; node_1 = node; name_2 = 0; node_2 = 0 }) ≡ inserted ks name node
 unfolding inserted
 inserted_none ks name node e = simp (eq-eqb _ _ e)
 

@@ -250,7 +250,7 @@ module _ {f s s₁ : List ℕ} {c : Charges} {p n a b l r : ℕ} {ks : Bindings}
   whole_any h eu d eq ep eq' ep' rp rn bd = match_as (any_is f s c p n a b l r ks q q' eq ep eq' ep' rp u eu d) h
 
   -- the left part did not match
-  whole_not : MatchOk f s s₁ c x (meaning.match_sexp (tree_at f s a) (tree_at f s l) (bindings_at f s ks)) → x ≡ NoMatch → u ≡ takes_any (tree_at f s a) (tree_at f s b) → u ≡ false → q ≡ cell_at s p → q ≡ Pair a b → q' ≡ cell_at s n → q' ≡ Pair l r → Ready f s c p → Ready f s c n → Bound f s c ks → MatchOk f s s₁ c NoMatch (meaning.match_sexp (tree_at f s p) (tree_at f s n) (bindings_at f s ks))
+  pub whole_not : MatchOk f s s₁ c x (meaning.match_sexp (tree_at f s a) (tree_at f s l) (bindings_at f s ks)) → x ≡ NoMatch → u ≡ takes_any (tree_at f s a) (tree_at f s b) → u ≡ false → q ≡ cell_at s p → q ≡ Pair a b → q' ≡ cell_at s n → q' ≡ Pair l r → Ready f s c p → Ready f s c n → Bound f s c ks → MatchOk f s s₁ c NoMatch (meaning.match_sexp (tree_at f s p) (tree_at f s n) (bindings_at f s ks))
   unfolding match_at BoundIn meaning.verdict
   whole_not h ex eu d eq ep eq' ep' rp rn bd =
       let (ds, e) = is_failed (meaning.match_sexp (tree_at f s a) (tree_at f s l) (bindings_at f s ks)) (rw ex at h.answer) in
@@ -260,7 +260,7 @@ module _ {f s s₁ : List ℕ} {c : Charges} {p n a b l r : ℕ} {ks : Bindings}
         grown = h.grown;
       }
 
-  whole_many : MatchOk f s s₁ c x (meaning.match_sexp (tree_at f s a) (tree_at f s l) (bindings_at f s ks)) → x ≡ TooManyNames → u ≡ takes_any (tree_at f s a) (tree_at f s b) → u ≡ false → q ≡ cell_at s p → q ≡ Pair a b → q' ≡ cell_at s n → q' ≡ Pair l r → Ready f s c p → Ready f s c n → Bound f s c ks → MatchOk f s s₁ c TooManyNames (meaning.match_sexp (tree_at f s p) (tree_at f s n) (bindings_at f s ks))
+  pub whole_many : MatchOk f s s₁ c x (meaning.match_sexp (tree_at f s a) (tree_at f s l) (bindings_at f s ks)) → x ≡ TooManyNames → u ≡ takes_any (tree_at f s a) (tree_at f s b) → u ≡ false → q ≡ cell_at s p → q ≡ Pair a b → q' ≡ cell_at s n → q' ≡ Pair l r → Ready f s c p → Ready f s c n → Bound f s c ks → MatchOk f s s₁ c TooManyNames (meaning.match_sexp (tree_at f s p) (tree_at f s n) (bindings_at f s ks))
   unfolding match_at BoundIn meaning.verdict
   whole_many h ex eu d eq ep eq' ep' rp rn bd =
       let e : meaning.too_many_names ≡ meaning.match_sexp (tree_at f s a) (tree_at f s l) (bindings_at f s ks) = is_third _ (rw ex at h.answer) in

@@ -148,9 +148,9 @@ fn turns(
     requires { Lent room.old out.old text.old }
 {
     let mut s = lines::start();
-    for _ in 0..u64::MAX {
+    for turns in (1..=u64::MAX).rev() {
         s = turn(input, which, buf, forms, room, out, text, s);
-        if matches!(s.got, Got::End) {
+        if lines::left(s, turns) == 0 {
             return;
         }
     }

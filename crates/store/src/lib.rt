@@ -9,7 +9,7 @@ ghost use Rattle.meaning.specs.Constant.{seems_constant, seems_constant_tail};
 ghost use Rattle.meaning.specs.Outcome.{zeroed};
 ghost use Rattle.store.specs.Cells.{num16, num64, put16, put64, Room, cell_at, bytes_at, same_at, pair_put, atom_put};
 ghost use Rattle.store.specs.Nodes.{tree_at, tree_in, mixed, print_from, print_of};
-ghost use Rattle.store.specs.Store.{noted_at, noted_tail_at, digit, atom_most, free_limit, Paid, Held, Ready};
+ghost use Rattle.store.specs.Store.{noted_at, noted_tail_at, digit, note, note_tail, atom_most, free_limit, Paid, Held, Ready};
 ghost use Rattle.store.specs.Makers.{charged, lend, MadeOk, Put, LaidOk, Begun, Answered, Grown, Joins};
 
 use refusals::Refusal;
@@ -368,7 +368,8 @@ fn with_note<const PLACE: u8>(k: u8, b: bool) -> u8
 // Remembers an answer, and gives it.
 pub fn remember(form: &[u8], room: &mut [u8], ch: Charges, n: usize, b: bool) -> bool
     requires { Ready form.now room.old ch n × (b ≡ seems_constant (tree_at form.now room.old n)) }
-    ensures { Answered form.now room.old room.new ch result (seems_constant (tree_in form.now room.old n)) }
+    ensures answered { Answered form.now room.old room.new ch result (seems_constant (tree_in form.now room.old n)) }
+    ensures written { room.new ≡ note room.old n b }
 {
     room[n] = with_note::<4>(room[n], b);
     b
@@ -376,7 +377,8 @@ pub fn remember(form: &[u8], room: &mut [u8], ch: Charges, n: usize, b: bool) ->
 
 pub fn remember_tail(form: &[u8], room: &mut [u8], ch: Charges, n: usize, b: bool) -> bool
     requires { Ready form.now room.old ch n × (b ≡ seems_constant_tail (tree_at form.now room.old n)) }
-    ensures { Answered form.now room.old room.new ch result (seems_constant_tail (tree_in form.now room.old n)) }
+    ensures answered { Answered form.now room.old room.new ch result (seems_constant_tail (tree_in form.now room.old n)) }
+    ensures written { room.new ≡ note_tail room.old n b }
 {
     room[n] = with_note::<16>(room[n], b);
     b

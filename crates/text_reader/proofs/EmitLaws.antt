@@ -8,8 +8,8 @@ use native.Mathlib.Numerals.{add-one}
 use lib.Dec.{ltb}
 use borrow.Rule.Slice.PartMut.{put_mid, same_len_mid}
 use Rattle.std.proofs.lemmas.Slice.{take-put_mid}
-use lib.ListN.{length, take, drop, set, length-append, length-set}
-use lib.Seq.{take-suc-set}
+use lib.ListN.{length, take, drop, set, length-append, length-set, length-drop, drop_of_length-le}
+use lib.Seq.{take-suc-set, length-take-le}
 use Rattle.meaning.proofs.Tests.{on_bool}
 use Rattle.meaning.specs.Form.{write_length, write_atom}
 use Rattle.std.specs.Prelude.{Option, Some, None}
@@ -66,12 +66,19 @@ added {f} {f'} {more} {g} {m} {n} h c l k t = rw h (record { long = k; within = 
 pub byte_fits : {f : List ℕ} {g : Option ℕ} {b : ℕ} (n : ℕ) → g ≡ Some n → n < 8192 → 8192 ≤ length f → Emits (b ∷ []) f (set f n b) g (Some (n + 1))
 byte_fits {f} {g} {b} n h l k = added h refl (omega arith) (length-set f n b) (rw add-one (take-suc-set f n b (omega arith)))
 
-pub bytes_fit : {b f ys : List ℕ} {g : Option ℕ} (n : ℕ) → g ≡ Some n → n ≤ 8192 → length b ≤ 8192 - n → 8192 ≤ length f → ys ≡ b
-    → length ys ≡ length (take (n + length b - n) (drop n f)) → Emits b f (put_mid n (n + length b - n) f ys) g (Some (n + length b))
+-- b copied to the front of a part as long as b is all of the part
+whole_copy : (b zs ys : List ℕ) → length zs ≡ length b → ys ≡ b ++ drop (length b) zs → ys ≡ b
+whole_copy b zs ys e i = i ∙ ap (b ++◌) (drop_of_length-le zs {i = length b} (omega arith)) ∙ append-nil b
+
+pub bytes_fit : {b f ys : List ℕ} {g : Option ℕ} (n : ℕ) → g ≡ Some n → n ≤ 8192 → length b ≤ 8192 - n → 8192 ≤ length f
+    → ys ≡ b ++ drop (length b) (take (n + length b - n) (drop n f)) → length ys ≡ length (take (n + length b - n) (drop n f))
+    → Emits b f (put_mid n (n + length b - n) f ys) g (Some (n + length b))
 bytes_fit {b} {f} {ys} {g} n h w l k i j =
-    let z : length ys ≡ length b = ap length i in
+    let q : length (take (n + length b - n) (drop n f)) ≡ n + length b - n = length-take-le (n + length b - n) (drop n f) (omega (arith, length-drop n f)) in
+    let y : ys ≡ b = whole_copy b _ ys (omega arith) i in
+    let z : length ys ≡ length b = ap length y in
     added h refl (omega arith) (same_len_mid n (n + length b - n) f ys j)
-    (take-put_mid n (n + length b - n) f ys (n + length b) (omega arith) (omega arith) ∙ ap (take n f ++◌) i)
+    (take-put_mid n (n + length b - n) f ys (n + length b) (omega arith) (omega arith) ∙ ap (take n f ++◌) y)
 
 -- ---- one after the other
 

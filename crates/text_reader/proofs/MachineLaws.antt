@@ -34,7 +34,7 @@ use Rattle.text_reader.proofs.EmitLaws.{emits_none, part_over}
 
 -- ---- leaves
 
-no_byte : (b : List ℕ) → (length b ≡ 1 → ⊥) → false ≡ is_byte 1 b
+pub no_byte : (b : List ℕ) → (length b ≡ 1 → ⊥) → false ≡ is_byte 1 b
 unfolding is_byte
 no_byte [] h = refl
 no_byte (x ∷ []) h = absurd (h refl)

@@ -30,7 +30,7 @@ fn emit_bytes(form: &mut [u8], g: Option<usize>, b: &[u8]) -> Option<usize>
         return None;
     }
     let end = at + b.len();
-    form[at..end].copy_from_slice(b);
+    form::copy(b, &mut form[at..end]);
     Some(end)
 }
 

@@ -1,5 +1,4 @@
 -- Which atoms have a name, and an atom's text by its choice. Assumes nothing.
-use mathlib.Core.Logic.{◌⊎◌, inl, inr}
 use mathlib.Core.Path.{◌≡◌, refl, sym, ◌∙◌, ap}
 use mathlib.Core.List.{List, [], ◌∷◌}
 use mathlib.Core.Bool.{Bool, true, false, ◌&&◌}
@@ -79,10 +78,13 @@ module _ (p : Place) (b : List ℕ) where
       go (x ∷ []) h = absurd (omega arith)
       go (x ∷ y ∷ b) h = refl
 
-  pub fits_else : (p ≡ Code) ⊎ (p ≡ Data) → false ≡ has_name p b
+  pub fits_code : p ≡ Code → false ≡ has_name p b
   unfolding has_name name_at
-  fits_else (inl i) = rw i
-  fits_else (inr i) = rw i
+  fits_code i = rw i
+
+  pub fits_data : p ≡ Data → false ≡ has_name p b
+  unfolding has_name name_at
+  fits_data i = rw i
 
 -- ---- what a name that fits says
 

@@ -73,7 +73,9 @@ fn has_name(p: Place, b: &[u8]) -> bool
 {
     match p {
         Place::Operator => matches!(b, [1..=9]),
-        Place::Code | Place::Data => false,
+        // Two arms: the edit q_outside_operator_place changes the first.
+        Place::Code => false,
+        Place::Data => false,
     }
 }
 

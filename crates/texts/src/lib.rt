@@ -138,8 +138,11 @@ fn convert_first(text: &[u8], room: &mut [u8], forms: &mut [u8]) -> Result<usize
     ensures { FirstOk text.now forms.new result }
 {
     let n = form_of_text(text, room, forms)?;
-    form::read_whole(&forms[..n], room)?;
-    Ok(n)
+    // Arms in place of `?`: the edit environment_before_the_program changes what the second gives, and nothing else.
+    match form::read_whole(&forms[..n], room) {
+        Ok(_) => Ok(n),
+        Err(e) => Err(e),
+    }
 }
 
 // The program's form and, behind it, the environment's: the program's text is texts[..mid].

@@ -45,10 +45,10 @@ pub seems_constant-is_nil_node-requires : goal.seems_constant-is_nil_node-requir
 seems_constant-is_nil_node-requires t c = search room
 
 pub seems_constant-returns-then-seems_constant : goal.seems_constant-returns-then-seems_constant
-seems_constant-returns-then-seems_constant t c = laws.back_two meaning.seems_constant c.remember.ensures c.seems_constant_tail-b.ensures c.seems_constant.ensures c.requires
+seems_constant-returns-then-seems_constant t c = laws.back_two meaning.seems_constant c.remember.ensures.answered c.seems_constant_tail-b.ensures c.seems_constant.ensures c.requires
 
 pub seems_constant-returns-else-seems_constant : goal.seems_constant-returns-else-seems_constant
-seems_constant-returns-else-seems_constant t c = laws.back meaning.seems_constant c.remember-else-seems_constant.ensures c.seems_constant.ensures c.requires
+seems_constant-returns-else-seems_constant t c = laws.back meaning.seems_constant c.remember-else-seems_constant.ensures.answered c.seems_constant.ensures c.requires
 
 pub seems_constant-returns-then-is_byte_node : goal.seems_constant-returns-then-is_byte_node
 seems_constant-returns-then-is_byte_node t c = search laws.one
@@ -57,7 +57,7 @@ pub seems_constant-returns-then-is_byte_node-2 : goal.seems_constant-returns-the
 seems_constant-returns-then-is_byte_node-2 t c = search laws.eight
 
 pub seems_constant-returns-else-is_byte_node-2 : goal.seems_constant-returns-else-is_byte_node-2
-seems_constant-returns-else-is_byte_node-2 t c = laws.back meaning.seems_constant c.remember-else-is_byte_node-2.ensures c.seems_constant_tail-b-else-is_byte_node-2.ensures c.requires
+seems_constant-returns-else-is_byte_node-2 t c = laws.back meaning.seems_constant c.remember-else-is_byte_node-2.ensures.answered c.seems_constant_tail-b-else-is_byte_node-2.ensures c.requires
 
 pub seems_constant-returns-in-Atom : goal.seems_constant-returns-in-Atom
 seems_constant-returns-in-Atom t c = search laws.atom_nil
@@ -87,10 +87,10 @@ pub seems_constant_tail-is_nil_node-requires : goal.seems_constant_tail-is_nil_n
 seems_constant_tail-is_nil_node-requires t c = search room
 
 pub seems_constant_tail-returns-then-seems_constant : goal.seems_constant_tail-returns-then-seems_constant
-seems_constant_tail-returns-then-seems_constant t c = laws.back_two meaning.seems_constant_tail c.remember_tail.ensures c.seems_constant_tail-b.ensures c.seems_constant.ensures c.requires
+seems_constant_tail-returns-then-seems_constant t c = laws.back_two meaning.seems_constant_tail c.remember_tail.ensures.answered c.seems_constant_tail-b.ensures c.seems_constant.ensures c.requires
 
 pub seems_constant_tail-returns-else-seems_constant : goal.seems_constant_tail-returns-else-seems_constant
-seems_constant_tail-returns-else-seems_constant t c = laws.back meaning.seems_constant_tail c.remember_tail-else-seems_constant.ensures c.seems_constant.ensures c.requires
+seems_constant_tail-returns-else-seems_constant t c = laws.back meaning.seems_constant_tail c.remember_tail-else-seems_constant.ensures.answered c.seems_constant.ensures c.requires
 
 pub seems_constant_tail-returns-in-Atom : goal.seems_constant_tail-returns-in-Atom
 seems_constant_tail-returns-in-Atom t c = search laws.atom_nil_tail

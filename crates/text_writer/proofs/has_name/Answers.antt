@@ -18,4 +18,7 @@ pub returns-in_default-4 : goal.returns-in_default-4
 returns-in_default-4 c = search laws.fits_more
 
 pub returns-in-Code : goal.returns-in-Code
-returns-in-Code c = search laws.fits_else
+returns-in-Code c = search laws.fits_code
+
+pub returns-in-Data : goal.returns-in-Data
+returns-in-Data c = search laws.fits_data
