@@ -113,11 +113,10 @@ fn turns(input: Stdin, buf: &mut [u8], row: &mut [u8], text: &mut [u8])
     requires { line_most ≤ length text.old }
 {
     let mut s = lines::start();
-    for turns in (1..=u64::MAX).rev() {
+    let mut left = u64::MAX;
+    while 0 < left {
         s = turn(input, buf, row, text, s);
-        if lines::left(s, turns) == 0 {
-            return;
-        }
+        left = lines::left(s, left);
     }
 }
 

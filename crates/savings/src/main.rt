@@ -152,15 +152,14 @@ fn list(input: Stdin, buf: &mut [u8], forms: &mut [u8], room: &mut [u8], text: &
         savings: totals::none_yet(),
         over: false,
     };
-    for turns in (1..=u64::MAX).rev() {
+    let mut left = u64::MAX;
+    while 0 < left {
         t = turn(input, buf, forms, room, text, t);
         if t.over {
             lines::flush(text, t.lines.put);
             return;
         }
-        if lines::left(t.lines, turns) == 0 {
-            return;
-        }
+        left = lines::left(t.lines, left);
     }
 }
 

@@ -148,11 +148,10 @@ fn turns(
     requires { Lent room.old out.old text.old }
 {
     let mut s = lines::start();
-    for turns in (1..=u64::MAX).rev() {
+    let mut left = u64::MAX;
+    while 0 < left {
         s = turn(input, which, buf, forms, room, out, text, s);
-        if lines::left(s, turns) == 0 {
-            return;
-        }
+        left = lines::left(s, left);
     }
 }
 

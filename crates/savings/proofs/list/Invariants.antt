@@ -1,0 +1,5 @@
+-- list: the turns that are left go down, as `left` says. Assumes nothing.
+use Rattle.savings.proofs.list.Given as goal
+
+abbrev pub decreases-loop-left : goal.decreases-loop-left
+decreases-loop-left l = l.left
